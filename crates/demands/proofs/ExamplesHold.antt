@@ -1,0 +1,42 @@
+-- The examples hold: each by computing the definitions.
+use mathlib.Core.Path.{refl}
+use Rattle.model.specs.Test.{any, tabulate, maximum}
+use Rattle.model.specs.Set.{deviceOf, size}
+use Rattle.model.specs.Read.{lastTask, addAction, heldAfter, note, outOfOrder, fieldAllowed, tooMany, fault, close, readFrom, read}
+use Rattle.model.specs.State.{isEnd, sum, weight, rank, stateAt}
+use Rattle.model.specs.Hold.{heldTo, holdsFrom, holding, held as unitsHeld, permitted}
+use Rattle.model.specs.Box.{inside, covered, firstBox}
+use Rattle.model.specs.Forbidden.{choose, prefixed, sidesOf, boxesOf, boxesOfAll, deviceBoxes, forbiddenFrom, forbidden}
+use Rattle.model.specs.Map.{stepsOnto, byte, lastBytes, bytes}
+use Rattle.model.specs.UnsafeBoxes.{getsBox, blockerLow, unsafeBox, lastUnsafe, unsafeBoxes}
+use Rattle.model.specs.Layout.{withEnd}
+use Rattle.model.specs.Plan.{ranksFrom, sideWords, forbiddenWords, unsafeWords, planWords}
+use Rattle.model.specs.Analysis.{analyseSet, analyseReading}
+use Rattle.model.specs.Broker.{misplaced, bidByte, bidAnswer, isGranted, bidReading, serve, afterCalls}
+use Rattle.model.specs.Route.{stepFrom, walk, walked, routeFrom, routeSet, routeReading}
+use Rattle.demands.specs.Examples.{answers, Examples}
+
+pub examples-hold : Examples
+unfolding any tabulate maximum deviceOf size lastTask addAction heldAfter note outOfOrder fieldAllowed tooMany fault close readFrom read isEnd sum weight rank stateAt heldTo holdsFrom holding unitsHeld permitted inside covered firstBox choose prefixed sidesOf boxesOf boxesOfAll deviceBoxes forbiddenFrom forbidden stepsOnto byte lastBytes bytes getsBox blockerLow unsafeBox lastUnsafe unsafeBoxes withEnd ranksFrom sideWords forbiddenWords unsafeWords planWords analyseSet analyseReading misplaced bidByte bidAnswer isGranted bidReading serve afterCalls stepFrom walk walked routeFrom routeSet routeReading answers
+examples-hold = record {
+  a-answer = refl;
+  a-plan = refl;
+  b-answers = refl;
+  b-number = refl;
+  c-answer = refl;
+  c-route = refl;
+  d-unsafe = refl;
+  d-dead = refl;
+  d-counts = refl;
+  e-counts = refl;
+  e-unsafe = refl;
+  f-plan = refl;
+  g-plan = refl;
+  g-refused = refl;
+  h-refused = refl;
+  i-refused = refl;
+  j-refused = refl;
+  k-refused = refl;
+  l-answer = refl;
+  l-number = refl;
+}

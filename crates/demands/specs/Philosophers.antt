@@ -1,0 +1,22 @@
+-- Five philosophers: a larger set that the definitions still compute, for auditors who want to evaluate them. Each of five tasks claims its left device,
+-- then its right one, then releases both: 3,125 states.
+use Prim.Native.Nat.{ℕ, _+_, _%_}
+use mathlib.Core.Path.{_≡_}
+use mathlib.Core.List.{List, [], _∷_, map}
+use Rattle.model.specs.Set.{Set, Task, claim, release, lengthsOf, size}
+use Rattle.model.specs.Plan.{unsafeOf, deadOf}
+use Rattle.demands.specs.Examples.{_to_}
+
+-- the task between devices i and i + 1, counted round
+abbrev pub philosopher : ℕ → Task
+philosopher i = claim i ∷ claim ((i + 1) % 5) ∷ release i ∷ release ((i + 1) % 5) ∷ []
+
+abbrev pub five : Set
+five = record { capacities = 1 ∷ 1 ∷ 1 ∷ 1 ∷ 1 ∷ []; tasks = map philosopher (0 ∷ 1 ∷ 2 ∷ 3 ∷ 4 ∷ []) }
+
+pub record Philosophers : Type 0 where
+  pub states : size (lengthsOf five) ≡ 3125
+  -- the one dead state is that where each task holds its left device: rank 781
+  pub dead : deadOf five ≡ 781 ∷ []
+  -- it is the one unsafe state too
+  pub unsafe : unsafeOf five ≡ (1 to 1 ∷ 1 to 1 ∷ 1 to 1 ∷ 1 to 1 ∷ 1 to 1 ∷ []) ∷ []

@@ -1,0 +1,1 @@
+// Theorems and no code: specs/ states them, proofs/ proves them.

@@ -1,0 +1,21 @@
+-- The theorems on the model.
+pub mod Tests
+pub mod States
+pub mod Ranks
+pub mod Boxes
+pub mod Lists
+pub mod UnsafeBox
+pub mod UnsafeSound
+pub mod UnsafeComplete
+pub mod Byte
+pub mod MapExact
+pub mod DeadRanks
+pub mod Permitted
+pub mod ForbiddenExact
+pub mod Holds
+pub mod HoldWalk
+pub mod StartOpen
+pub mod Sums
+pub mod Moves
+pub mod BrokerOpen
+pub mod Rounds

@@ -1,0 +1,62 @@
+-- The layout of a set (document 01, "The set"): its words, and which sets are well formed.
+use Prim.Native.Nat.{ℕ, _+_, _*_, _/_, _%_, _<_, _≤_}
+use mathlib.Core.List.{List, [], _∷_, _++_, map}
+use lib.ListN.{length}
+use Rattle.model.specs.Set.{Action, claim, release, Task, Set, lengthsOf, taskAt, at, size, GoodTask}
+
+-- a word's top four bits are its kind, the low 28 its field
+abbrev pub word : ℕ → ℕ → ℕ
+word kind field = kind * 0x10000000 + field
+
+abbrev pub kindOf : ℕ → ℕ
+kindOf w = w / 0x10000000
+
+abbrev pub fieldOf : ℕ → ℕ
+fieldOf w = w % 0x10000000
+
+-- the kinds of a set's words
+abbrev pub DEVICE : ℕ
+DEVICE = 1
+
+abbrev pub TASK : ℕ
+TASK = 2
+
+abbrev pub CLAIM : ℕ
+CLAIM = 3
+
+abbrev pub RELEASE : ℕ
+RELEASE = 4
+
+abbrev pub END : ℕ
+END = 5
+
+unfoldable pub actionWord : Action → ℕ
+actionWord (claim d) = word CLAIM d
+actionWord (release d) = word RELEASE d
+
+-- each task: a TASK, then its actions
+unfoldable pub taskWords : List Task → List ℕ
+taskWords [] = []
+taskWords (task ∷ tasks) = (word TASK 0 ∷ map actionWord task) ++ taskWords tasks
+
+-- the words before END: the devices, then the tasks
+unfoldable pub body : Set → List ℕ
+body s = map (word DEVICE) (s .capacities) ++ taskWords (s .tasks)
+
+-- words, and END with the number of words before it
+unfoldable pub withEnd : List ℕ → List ℕ
+withEnd ws = ws ++ (word END (length ws) ∷ [])
+
+-- the words of a set
+abbrev pub encode : Set → List ℕ
+encode s = withEnd (body s)
+
+-- a set within the limits, whose tasks claim, release and close as they should
+pub record WellFormed (s : Set) : Type 0 where
+  pub capacities : (d : ℕ) → d < length (s .capacities) → (1 ≤ at (s .capacities) d) × (at (s .capacities) d ≤ 8)
+  pub devices : length (s .capacities) ≤ 16
+  pub some-task : 1 ≤ length (s .tasks)
+  pub tasks : length (s .tasks) ≤ 8
+  pub each-task : (t : ℕ) → t < length (s .tasks) → GoodTask (length (s .capacities)) (taskAt s t)
+  pub grid : size (lengthsOf s) ≤ 65536
+  pub words : length (encode s) ≤ 4096

@@ -1,0 +1,19 @@
+-- The definitions, in the order of document 01.
+pub mod Test
+pub mod Set
+pub mod Layout
+pub mod Read
+pub mod Declares
+pub mod State
+pub mod Hold
+pub mod Run
+pub mod Box
+pub mod Forbidden
+pub mod TaskTable
+pub mod Map
+pub mod UnsafeBoxes
+pub mod Plan
+pub mod Answer
+pub mod Analysis
+pub mod Broker
+pub mod Route
