@@ -3,8 +3,7 @@ use Prim.Native.Nat.{ℕ}
 use mathlib.Core.Path.{_≡_}
 use mathlib.Core.List.{List, [], _∷_, map}
 use lib.ListN.{length, replicate}
-use Rattle.model.specs.Set.{Set, claim, release, lengthsOf, size}
-use Rattle.model.specs.Layout.{encode}
+use Rattle.model.specs.Set.{Set, claim, release}
 use Rattle.model.specs.Read.{faulty, read}
 use Rattle.model.specs.Hold.{Interval}
 use Rattle.model.specs.Plan.{ranksFrom, mapOf, unsafeOf, deadOf}

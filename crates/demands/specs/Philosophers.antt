@@ -2,7 +2,7 @@
 -- then its right one, then releases both: 3,125 states.
 use Prim.Native.Nat.{ℕ, _+_, _%_}
 use mathlib.Core.Path.{_≡_}
-use mathlib.Core.List.{List, [], _∷_, map}
+use mathlib.Core.List.{[], _∷_, map}
 use Rattle.model.specs.Set.{Set, Task, claim, release, lengthsOf, size}
 use Rattle.model.specs.Plan.{unsafeOf, deadOf}
 use Rattle.demands.specs.Examples.{_to_}

@@ -11,7 +11,7 @@ use borrow.Author.Tests.{leb-true, le-leb, eqb-true, eqb-false}
 use Rattle.model.specs.Set.{at}
 use Rattle.model.specs.State.{State, next}
 use Rattle.model.specs.Hold.{Interval, within}
-use Rattle.model.specs.Box.{Box, side, inside, covered, firstBox}
+use Rattle.model.specs.Box.{inside, Box, side, covered, firstBox}
 use Rattle.model.proofs.Tests.{by-test, true-not-false, and-true, or-right}
 use Rattle.model.proofs.States.{at-next-same, at-next-other}
 

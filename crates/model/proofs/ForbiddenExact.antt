@@ -10,13 +10,13 @@ use lib.Dec.{leb, ltb, leb·zero, leb·suc-zero}
 use borrow.Author.Tests.{leb-true, leb-false, le-leb, lt-leb, ltb-true, lt-ltb}
 use Rattle.model.specs.Set.{Task, Set, lengths, at}
 use Rattle.model.specs.State.{State, InGrid}
-use Rattle.model.specs.Hold.{Interval, within, holds, holding, unitsAt, held, permitted}
-use Rattle.model.specs.Box.{Box, inside, covered}
+use Rattle.model.specs.Hold.{Interval, within, holds, holding, unitsAt, held, permitted, Overfull}
+use Rattle.model.specs.Box.{inside, Box, covered}
 use Rattle.model.specs.Forbidden.{TaskSet, choose, prefixed, sidesOf, boxesOf, boxesOfAll, deviceBoxes, Forbidden, forbiddenFrom, forbidden, boxes, forbiddenBoxes}
 use Rattle.model.proofs.Tests.{by-test, by-cases, true-not-false, or-true, or-right}
 use Rattle.model.proofs.Ranks.{tail-grid}
 use Rattle.model.proofs.Boxes.{covered-append, within-intro}
-use Rattle.model.proofs.Permitted.{Overfull, not-permitted}
+use Rattle.model.proofs.Permitted.{not-permitted}
 
 covered-map : (i : Interval) (bs : List Box) (p : ℕ) (x : State) → covered (map (λ b. i ∷ b) bs) (p ∷ x) ≡ (within i p && covered bs x)
 unfolding covered inside

@@ -1,7 +1,7 @@
 -- The holds say what a walk over the actions says: whether device d is held after k of them.
 use Prim.Native.Nat.{ℕ, zero, suc, _+_, _≤_}
 use native.Mathlib.Omega.{arith}
-use mathlib.Core.Path.{_≡_, refl, sym, ap, _∙_}
+use mathlib.Core.Path.{_≡_, sym, ap, _∙_}
 use mathlib.Core.Bool.{Bool, true, false, not, _&&_, _||_, or-false as or-nothing, and-true as and-all}
 use mathlib.Core.List.{[], _∷_}
 use lib.ListN.{length, take}

@@ -19,3 +19,8 @@ pub mod Sums
 pub mod Moves
 pub mod BrokerOpen
 pub mod Rounds
+pub mod RouteOpen
+pub mod Each
+pub mod PlanBack
+pub mod PlanCount
+pub mod PlanFitting

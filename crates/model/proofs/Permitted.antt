@@ -10,12 +10,8 @@ use borrow.Author.Tests.{ltb-true, lt-ltb, leb-true, leb-false, not-false}
 use Rattle.model.specs.Test.{any}
 use Rattle.model.specs.Set.{Set, at}
 use Rattle.model.specs.State.{State}
-use Rattle.model.specs.Hold.{held, permitted}
+use Rattle.model.specs.Hold.{held, permitted, Overfull}
 use Rattle.model.proofs.Tests.{by-test, true-not-false, any-true, any-intro}
-
--- some device has more units held than its capacity
-abbrev pub Overfull : Set → State → Type 0
-Overfull s x = (d : ℕ) × (d < length (s .capacities)) × (at (s .capacities) d < held d (s .tasks) x)
 
 module _ (s : Set) (x : State) where
   pub not-permitted : (permitted s x ≡ false) ↔ Overfull s x

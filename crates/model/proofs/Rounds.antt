@@ -36,7 +36,7 @@ module _ (ls m : List ℕ) where
   bid-stays x t ts e = ap (λ b. afterAll ls m (cond b (next x t) x) (map bids ts)) e
 
 -- at the end every action is done
-end-sum : (ls : List ℕ) (x : State) → InGrid ls x → isEnd ls x ≡ true → sum ls ≤ sum x
+pub end-sum : (ls : List ℕ) (x : State) → InGrid ls x → isEnd ls x ≡ true → sum ls ≤ sum x
 end-sum ls x g e =
     sum-le x ls
     (record {
@@ -44,16 +44,17 @@ end-sum ls x g e =
       fits = λ t. by-test (unfinished ls x t) (λ u. absurd (end-finished ls x e t u)) (ltb-false _ _);
     })
 
+-- an open state that is not the end has a task whose bid is granted
+pub some-moves : (ls : List ℕ) (permitted : State → Bool) (x : State) → InGrid ls x → isEnd ls x ≡ false → CanEnd ls permitted x
+    → (t : ℕ) × (moves ls (bytes ls permitted) x t ≡ true)
+some-moves ls permitted x g n (ended e) = true-not-false (isEnd ls x) e n
+some-moves ls permitted x g n (step t a c) =
+    let q = and-true (unfinished ls x t) (permitted (next x t)) a in
+    (t, good-moves ls permitted x t g (q .0) (q .1, c))
+
 module _ (ls : List ℕ) (permitted : State → Bool) (opens : Open ls permitted (start ls)) where
   abbrev m : List ℕ
   m = bytes ls permitted
-
-  -- an open state that is not the end has a task whose bid is granted
-  some-moves : (x : State) → InGrid ls x → isEnd ls x ≡ false → CanEnd ls permitted x → (t : ℕ) × (moves ls m x t ≡ true)
-  some-moves x g n (ended e) = true-not-false (isEnd ls x) e n
-  some-moves x g n (step t a c) =
-      let q = and-true (unfinished ls x t) (permitted (next x t)) a in
-      (t, good-moves ls permitted x t g (q .0) (q .1, c))
 
   -- bids lose no action done
   bids-keep : (x : State) (ts : List ℕ) → Good ls permitted x → sum x ≤ sum (afterAll ls m x (map bids ts))
@@ -94,7 +95,7 @@ module _ (ls : List ℕ) (permitted : State → Bool) (opens : Open ls permitted
       (by-test (isEnd ls x)
       (λ e. rest (omega (arith, end-sum ls x (g .grid) e, bids-keep x r g)))
       (λ e.
-      let t = some-moves x (g .grid) e (g .is-open .1) in
+      let t = some-moves ls permitted x (g .grid) e (g .is-open .1) in
       rest (omega (
         arith,
         bids-gain x r (t .0) g (t .1)

@@ -1,5 +1,5 @@
 -- Holds of a task, units held at a state, and permitted states (document 01, "States and holds").
-use Prim.Native.Nat.{ℕ, suc, _+_}
+use Prim.Native.Nat.{ℕ, suc, _+_, _<_}
 use mathlib.Core.Bool.{Bool, false, not, cond, _&&_, _||_}
 use mathlib.Core.List.{List, [], _∷_}
 use lib.ListN.{length}
@@ -51,3 +51,7 @@ held d (task ∷ tasks) (p ∷ x) = unitsAt (holds d task) p + held d tasks x
 -- no device has more units held than its capacity
 unfoldable pub permitted : Set → State → Bool
 permitted s x = not (any (length (s .capacities)) (λ d. ltb (at (s .capacities) d) (held d (s .tasks) x)))
+
+-- some device has more holders than its capacity
+abbrev pub Overfull : Set → State → Type 0
+Overfull s x = (d : ℕ) × (d < length (s .capacities)) × (at (s .capacities) d < held d (s .tasks) x)
