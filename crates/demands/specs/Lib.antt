@@ -1,2 +1,3 @@
 pub mod Examples
 pub mod Philosophers
+pub mod Demand2

@@ -24,3 +24,10 @@ pub mod Each
 pub mod PlanBack
 pub mod PlanCount
 pub mod PlanFitting
+pub mod ReadNumbers
+pub mod Held
+pub mod Parity
+pub mod Words
+pub mod Faults
+pub mod ReadAccepts
+pub mod ReadExact

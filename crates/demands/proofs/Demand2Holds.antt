@@ -1,0 +1,41 @@
+-- Demand 2 holds.
+use Prim.Native.Nat.{ℕ}
+use mathlib.Core.Path.{_≡_, refl, _∙_, ap, sym}
+use mathlib.Core.List.{List}
+use lib.ListN.{length, drop}
+use Rattle.model.specs.Set.{Set, lengthsOf}
+use Rattle.model.specs.Read.{read, setOf, setIn}
+use Rattle.model.specs.Hold.{permitted}
+use Rattle.model.specs.Plan.{Plan, planOf, planWords, planFrom}
+use Rattle.model.specs.Answer.{planned}
+use Rattle.model.specs.Analysis.{analyse}
+use Rattle.model.proofs.ForbiddenExact.{forbidden-exact}
+use Rattle.model.proofs.DeadRanks.{dead-ascending, dead-exact}
+use Rattle.model.proofs.PlanFitting.{plan-of-back}
+use Rattle.model.proofs.ReadAccepts.{read-complete, encode-injective}
+use Rattle.model.proofs.ReadExact.{read-sound}
+use Rattle.demands.specs.Demand2.{PlanExact, Demand2}
+use Rattle.demands.proofs.Outcome.{accepted-made}
+
+-- the plan of a set is exact
+plan-exact : (s : Set) → PlanExact s (planOf s)
+plan-exact s = record {
+  rule = refl;
+  exact = forbidden-exact s;
+  rising = dead-ascending (lengthsOf s) (permitted s);
+  listed = dead-exact (lengthsOf s) (permitted s);
+}
+
+-- an accepted analysis leaves the plan of the set that the words declare
+pub plan-left : (words map plan : List ℕ) (n : ℕ) → analyse words map plan .answer ≡ planned n
+    → planFrom (analyse words map plan .plan) ≡ planOf (setIn words)
+plan-left words map plan n e =
+    let r = accepted-made words map plan n e in
+    let s = setIn words in
+    ap planFrom (r .1) ∙ plan-of-back s (read-sound words s (r .0 .is-read) .1) (drop (length (planWords (planOf s))) plan)
+
+pub demand2 : Demand2
+demand2 = record {
+  layout = record { accepts = read-complete; no-others = read-sound; one-set = encode-injective };
+  plan = λ words map plan n e. rw (plan-left words map plan n e) (plan-exact (setIn words));
+}

@@ -1,0 +1,42 @@
+-- Demand 2: the reader accepts the sets of the layout and no others; the forbidden boxes are those of the published rule, and a state lies in one exactly when
+-- some device has more holders than its capacity; dead states are listed once each, ascending.
+use Prim.Native.Nat.{ℕ, _<_}
+use mathlib.Core.Path.{_≡_}
+use mathlib.Core.Logic.{_↔_}
+use mathlib.Core.Bool.{true}
+use mathlib.Core.List.{List, List·Memᴰ}
+use Rattle.model.specs.Set.{Set, lengthsOf, size}
+use Rattle.model.specs.Layout.{encode, WellFormed}
+use Rattle.model.specs.Read.{reads, read, setIn}
+use Rattle.model.specs.State.{State, stateAt, InGrid}
+use Rattle.model.specs.Hold.{permitted, Overfull}
+use Rattle.model.specs.Run.{Dead}
+use Rattle.model.specs.Box.{covered}
+use Rattle.model.specs.Forbidden.{forbidden, boxes}
+use Rattle.model.specs.Plan.{AscendingFrom, Plan, planFrom}
+use Rattle.model.specs.Answer.{planned}
+use Rattle.model.specs.Analysis.{analyse}
+
+-- first part: the sets of the layout and no others
+pub record LayoutExact : Type 0 where
+  -- the words of a well-formed set are accepted, and read as that set
+  pub accepts : (s : Set) → WellFormed s → read (encode s) ≡ reads s
+  -- accepted words are the words of the set that is read, and it is well formed
+  pub no-others : (words : List ℕ) (s : Set) → read words ≡ reads s → (words ≡ encode s) × WellFormed s
+  -- well-formed sets with equal words are equal
+  pub one-set : (s r : Set) → WellFormed s → WellFormed r → encode s ≡ encode r → s ≡ r
+
+-- second and third part, of the plan p for the set s
+pub record PlanExact (s : Set) (p : Plan) : Type 0 where
+  -- the forbidden boxes are those of document 004, 5.1, in document 01's order, each with its device
+  pub rule : p .forbidden ≡ forbidden s
+  -- a state of the grid lies in one exactly if some device has more holders than its capacity
+  pub exact : (x : State) → InGrid (lengthsOf s) x → (covered (boxes (p .forbidden)) x ≡ true) ↔ Overfull s x
+  -- the dead states are listed by strictly rising rank, and these are all
+  pub rising : AscendingFrom 0 (p .dead)
+  pub listed : (r : ℕ) → List·Memᴰ r (p .dead) ↔ ((r < size (lengthsOf s)) × Dead (lengthsOf s) (permitted s) (stateAt (lengthsOf s) r))
+
+pub record Demand2 : Type 0 where
+  pub layout : LayoutExact
+  -- where an analysis is accepted, of the plan read back from the plan slice as it leaves it, whatever the slices held and however long they are
+  pub plan : (words map plan : List ℕ) (n : ℕ) → analyse words map plan .answer ≡ planned n → PlanExact (setIn words) (planFrom (analyse words map plan .plan))

@@ -1,0 +1,211 @@
+-- The reading accepts no words but those of a well-formed set: it is exact.
+use Prim.Native.Nat.{ℕ, suc, _<_, _≤_}
+use native.Mathlib.Omega.{arith}
+use mathlib.Core.Path.{_≡_, refl, sym, ap, ap₂, subst, _∙_}
+use mathlib.Core.Logic.{_↔_}
+use mathlib.Core.Bool.{Bool, true, false}
+use mathlib.Core.List.{List, [], _∷_, _++_, append-nil, append-assoc}
+use lib.ListN.{length, length-append}
+use lib.Seq.{append-snoc}
+use lib.Dec.{eqb, ltb, leb}
+use borrow.Author.Tests.{ltb-true, ltb-false, leb-true, leb-false, eqb-true, eqb-false, not-false}
+use Rattle.model.specs.Set.{Action, claim, release, deviceOf, Task, Set, lengths, size, balanced, GoodTask}
+use Rattle.model.specs.Layout.{word, DEVICE, TASK, CLAIM, RELEASE, END, actionWord, taskWords, body, withEnd, encode, WellFormed}
+use Rattle.model.specs.Read.{lastTask, addAction, heldAfter, note, outOfOrder, fieldAllowed, tooMany, holdsSome, reads, close, readFrom, read}
+use Rattle.model.proofs.Tests.{by-test, true-not-false, and-true, any-false}
+use Rattle.model.proofs.Held.{EachPlace, place-added, Declared, count-add, last-added, action-added, held-append, held-unnamed, releases, balanced-on}
+use Rattle.model.proofs.Words.{setWith, body-device, body-task, body-action}
+use Rattle.model.proofs.Faults.{scanOf, WordRead, not-faulty, word-reads, by-kind}
+use Rattle.model.proofs.ReadAccepts.{read-complete}
+
+-- the devices and tasks read so far are as they must be
+record Sound (cs : List ℕ) (ts : List Task) : Type 0 where
+  capacities : EachPlace (λ c. (1 ≤ c) × (c ≤ 8)) cs 0
+  devices : length cs ≤ 16
+  tasks : length ts ≤ 8
+  each-task : EachPlace (GoodTask (length cs)) ts []
+
+-- so are the actions t of the open task: it may go on as what it holds allows
+record Open (cs : List ℕ) (ts : List Task) (t : Task) : Type 0 where
+  before : Sound cs ts
+  count : length ts < 8
+  actions : length t ≤ 255
+  declared : Declared (length cs) t
+  balance : (d : ℕ) (u : Task) → balanced d false (t ++ u) ≡ balanced d (heldAfter d false t) u
+
+module _ (cs : List ℕ) (ts : List Task) (t : Task) (o : Open cs ts t) where
+  -- a task that holds nothing may be closed
+  closes : holdsSome (scanOf cs (ts ++ (t ∷ []))) ≡ false → Sound cs (ts ++ (t ∷ []))
+  unfolding balanced
+  closes none =
+      let n = length cs in
+      let free : (d : ℕ) → heldAfter d false t ≡ false = λ d.
+      by-test (ltb d n) (λ k. rw (last-added ts t) at (any-false n _ none d (ltb-true d n k)))
+      (λ k. held-unnamed n d false t (ltb-false d n k) (o .declared)) in
+      let good : GoodTask n t =
+      record { actions = o .actions; declared = o .declared; balance = λ d. rw (append-nil t, free d) at (o .balance d []) } in
+      record {
+        capacities = o .before .capacities;
+        devices = o .before .devices;
+        tasks = omega (arith, count-add ts t, o .count);
+        each-task = place-added (GoodTask n) ts t [] (o .before .each-task) good;
+      }
+
+  -- an action that it may do now is added to it
+  acts : (a : Action) → length t < 255 → deviceOf a < length cs → heldAfter (deviceOf a) false t ≡ releases a → Open cs ts (t ++ (a ∷ []))
+  acts a room declared may =
+      record {
+        before = o .before;
+        count = o .count;
+        actions = rw (length-append t (a ∷ [])) (omega arith);
+        declared = place-added (λ b. deviceOf b < length cs) t a (claim 0) (o .declared) declared;
+        balance = λ d u.
+            ap (balanced d false) (append-assoc t (a ∷ []) u)
+            ∙ o .balance d (a ∷ u)
+            ∙ balanced-on d (heldAfter d false t) a u (λ k. rw (eqb-true (deviceOf a) d k) at may)
+            ∙ ap (λ (h : Bool). balanced d h u) (sym (held-append d false t (a ∷ [])));
+      }
+
+opens : (cs : List ℕ) (ts : List Task) → Sound cs ts → length ts < 8 → Open cs ts []
+unfolding heldAfter
+opens cs ts o room = record { before = o; count = room; actions = omega arith; declared = λ p k. absurd (omega arith); balance = λ d u. refl }
+
+-- after END there is no word, and the grid is within its limit
+after-end : (s r : Set) (i : ℕ) (ws : List ℕ) → readFrom (record { set = s; ended = true }) i ws ≡ reads r
+    → (ws ≡ []) × (size (lengths (s .tasks)) ≤ 65536) × (s ≡ r)
+unfolding readFrom close
+after-end s r i [] e =
+    let g = size (lengths (s .tasks)) in
+    let p = not-faulty (ltb 65536 g) _ _ (reads s) r e in
+    let same = p .1 in (refl, ltb-false 65536 g (p .0), (cc))
+after-end s r i (w ∷ ws) e = true-not-false true refl (word-reads (record { set = s; ended = true }) i w ws r e .passes .before-end)
+
+module _ (all : List ℕ) (short : length all ≤ 4096) (r : Set) where
+  -- all words are those of the set r
+  abbrev Found : Type 0
+  Found = (all ≡ encode r) × WellFormed r
+
+  -- all words are those of cs and ts and then ws, and from there ws is accepted
+  record Takes (cs : List ℕ) (ts : List Task) (ws : List ℕ) : Type 0 where
+    words : body (setWith cs ts) ++ ws ≡ all
+    taken : readFrom (scanOf cs ts) (length (body (setWith cs ts))) ws ≡ reads r
+
+  -- one word more is read
+  takes-on : (cs : List ℕ) (ts : List Task) (ds : List ℕ) (us : List Task) (w : ℕ) (ws : List ℕ) → Takes cs ts (w ∷ ws)
+      → body (setWith ds us) ≡ body (setWith cs ts) ++ (w ∷ []) → readFrom (scanOf ds us) (suc (length (body (setWith cs ts)))) ws ≡ reads r → Takes ds us ws
+  takes-on cs ts ds us w ws e more next =
+      let b = body (setWith cs ts) in
+      let count : length (body (setWith ds us)) ≡ suc (length b) = ap length more ∙ simp length-append (omega arith) in
+      record { words = rw more (append-snoc b w ws ∙ e .words); taken = rw count next }
+
+  -- the word w, first of those left, is of kind k and field f
+  abbrev ReadHere : List ℕ → List Task → ℕ → List ℕ → ℕ → ℕ → Type 0
+  ReadHere cs ts w ws k f = WordRead (scanOf cs ts) (length (body (setWith cs ts))) w ws r k f
+
+  -- ---- what each kind of word does
+  by-end : (cs : List ℕ) (ts : List Task) (w : ℕ) (ws : List ℕ) (f : ℕ) → Sound cs ts → Takes cs ts (w ∷ ws) → ReadHere cs ts w ws END f → Found
+  unfolding note outOfOrder fieldAllowed withEnd
+  by-end cs ts w ws f o e x =
+      let s = setWith cs ts in
+      let b = body s in
+      let done = after-end s r (suc (length b)) ws (x .after) in
+      let here : w ≡ word END (length b) = x .made ∙ ap (word END) (eqb-true f (length b) (x .passes .field)) in
+      let whole : all ≡ encode s = sym (e .words) ∙ ap₂ (λ (v : ℕ) (l : List ℕ). b ++ (v ∷ l)) here (done .0) in
+      let some = eqb-false (length ts) 0 (x .passes .order) in
+      let well : WellFormed s =
+      record {
+        capacities = o .capacities;
+        devices = o .devices;
+        some-task = omega (arith, some);
+        tasks = o .tasks;
+        each-task = o .each-task;
+        grid = done .1;
+        words = subst (λ (l : List ℕ). length l ≤ 4096) whole short;
+      } in
+      subst (λ (q : Set). (all ≡ encode q) × WellFormed q) (done .2) (whole, well)
+
+  by-device : (cs : List ℕ) (w : ℕ) (ws : List ℕ) (f : ℕ) → Sound cs [] → Takes cs [] (w ∷ ws) → ReadHere cs [] w ws DEVICE f
+      → Sound (cs ++ (f ∷ [])) [] × Takes (cs ++ (f ∷ [])) [] ws
+  unfolding note fieldAllowed tooMany
+  by-device cs w ws f o e x =
+      let fits = and-true (leb 1 f) (leb f 8) (x .passes .field) in
+      let room = leb-false 16 (length cs) (x .passes .room) in (
+        record {
+          capacities = place-added (λ c. (1 ≤ c) × (c ≤ 8)) cs f 0 (o .capacities) (leb-true 1 f (fits .0), leb-true f 8 (fits .1));
+          devices = rw (length-append cs (f ∷ [])) (omega arith);
+          tasks = o .tasks;
+          each-task = λ p k. absurd (omega arith);
+        },
+        takes-on cs [] (cs ++ (f ∷ [])) [] w ws e (rw (x .made) (body-device cs f)) (x .after),
+      )
+
+  by-task : (cs : List ℕ) (ts : List Task) (w : ℕ) (ws : List ℕ) (f : ℕ) → Sound cs ts → Takes cs ts (w ∷ ws) → ReadHere cs ts w ws TASK f
+      → Open cs ts [] × Takes cs (ts ++ ([] ∷ [])) ws
+  unfolding note fieldAllowed tooMany
+  by-task cs ts w ws f o e x =
+      let made : w ≡ word TASK 0 = x .made ∙ ap (word TASK) (eqb-true f 0 (x .passes .field)) in (
+        opens cs ts o (leb-false 8 (length ts) (x .passes .room)),
+        takes-on cs ts cs (ts ++ ([] ∷ [])) w ws e (rw made (body-task cs ts)) (x .after),
+      )
+
+  module _ (cs : List ℕ) (ts : List Task) (t : Task) (w : ℕ) (ws : List ℕ) (o : Open cs ts t) (e : Takes cs (ts ++ (t ∷ [])) (w ∷ ws)) where
+    -- the open task has done the action a too
+    abbrev Acted : Action → Type 0
+    Acted a = Open cs ts (t ++ (a ∷ [])) × Takes cs (ts ++ ((t ++ (a ∷ [])) ∷ [])) ws
+
+    by-action : (a : Action) → w ≡ actionWord a → leb 255 (length (lastTask (ts ++ (t ∷ [])))) ≡ false → ltb (deviceOf a) (length cs) ≡ true
+        → heldAfter (deviceOf a) false (lastTask (ts ++ (t ∷ []))) ≡ releases a
+        → readFrom (scanOf cs (addAction (ts ++ (t ∷ [])) a)) (suc (length (body (setWith cs (ts ++ (t ∷ [])))))) ws ≡ reads r → Acted a
+    by-action a made room declared may next =
+        let last = last-added ts t in
+        let us = ts ++ (t ∷ []) in
+        let vs = ts ++ ((t ++ (a ∷ [])) ∷ []) in (
+          acts cs ts t o a (leb-false 255 (length t) (rw last at room)) (ltb-true _ _ declared) (rw last at may),
+          takes-on cs us cs vs w ws e (rw made (body-action cs ts t a)) (rw (action-added ts t a) at next),
+        )
+
+    by-claim : (f : ℕ) → ReadHere cs (ts ++ (t ∷ [])) w ws CLAIM f → Acted (claim f)
+    unfolding note fieldAllowed tooMany actionWord deviceOf releases
+    by-claim f x = by-action (claim f) (x .made) (x .passes .room) (x .passes .field) (x .passes .claimed) (x .after)
+
+    by-release : (f : ℕ) → ReadHere cs (ts ++ (t ∷ [])) w ws RELEASE f → Acted (release f)
+    unfolding note fieldAllowed tooMany actionWord deviceOf releases
+    by-release f x = by-action (release f) (x .made) (x .passes .room) (x .passes .field) (not-false _ (x .passes .released)) (x .after)
+
+  -- ---- the words left, with a task open, and before the first TASK
+  in-task : (ws : List ℕ) (cs : List ℕ) (ts : List Task) (t : Task) → Open cs ts t → Takes cs (ts ++ (t ∷ [])) ws → Found
+  unfolding readFrom close outOfOrder
+  in-task [] cs ts t o e = absurd (let z : _≡_ {A = ℕ} 0 1 = cc (e .taken) in omega arith)
+  in-task (w ∷ ws) cs ts t o e =
+      let us = ts ++ (t ∷ []) in
+      by-kind (scanOf cs us) (length (body (setWith cs us))) w ws r (e .taken)
+      (λ f x. absurd (omega (arith, ltb-false 0 (length us) (x .passes .order), count-add ts t)))
+      (λ f x. let n = by-task cs us w ws f (closes cs ts t o (x .passes .closed)) e x in in-task ws cs us [] (n .0) (n .1))
+      (λ f x. let n = by-claim cs ts t w ws o e f x in in-task ws cs ts (t ++ (claim f ∷ [])) (n .0) (n .1))
+      (λ f x. let n = by-release cs ts t w ws o e f x in in-task ws cs ts (t ++ (release f ∷ [])) (n .0) (n .1))
+      (λ f x. by-end cs us w ws f (closes cs ts t o (x .passes .closed)) e x)
+
+  in-devices : (ws cs : List ℕ) → Sound cs [] → Takes cs [] ws → Found
+  unfolding readFrom close outOfOrder
+  in-devices [] cs o e = absurd (let z : _≡_ {A = ℕ} 0 1 = cc (e .taken) in omega arith)
+  in-devices (w ∷ ws) cs o e =
+      by-kind (scanOf cs []) (length (body (setWith cs []))) w ws r (e .taken)
+      (λ f x. let n = by-device cs w ws f o e x in in-devices ws (cs ++ (f ∷ [])) (n .0) (n .1))
+      (λ f x. let n = by-task cs [] w ws f o e x in in-task ws cs [] [] (n .0) (n .1))
+      (λ f x. true-not-false true refl (x .passes .order))
+      (λ f x. true-not-false true refl (x .passes .order))
+      (λ f x. true-not-false true refl (x .passes .order))
+
+-- accepted words are those of the set answered, and that is well formed
+pub read-sound : (ws : List ℕ) (s : Set) → read ws ≡ reads s → (ws ≡ encode s) × WellFormed s
+unfolding read body taskWords
+read-sound ws s e =
+    let p = not-faulty (eqb (length ws) 0) 1 0 _ s e in
+    let q = not-faulty (ltb 4096 (length ws)) 2 4096 _ s (p .1) in
+    let nothing : Sound [] [] =
+    record { capacities = λ d h. absurd (omega arith); devices = omega arith; tasks = omega arith; each-task = λ t h. absurd (omega arith) } in
+    in-devices ws (ltb-false 4096 (length ws) (q .0)) s ws [] nothing (record { words = refl; taken = q .1 })
+
+-- the reading accepts the sets of the layout and no others
+pub read-exact : (ws : List ℕ) (s : Set) → (read ws ≡ reads s) ↔ ((ws ≡ encode s) × WellFormed s)
+read-exact ws s = (read-sound ws s, λ h. ap read (h .0) ∙ read-complete s (h .1))

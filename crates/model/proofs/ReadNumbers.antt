@@ -1,0 +1,60 @@
+-- A reading's refusals are the numbers 1 to 12.
+use Prim.Native.Nat.{ℕ, suc, _≤_}
+use native.Mathlib.Omega.{arith}
+use mathlib.Core.Path.{_≡_}
+use mathlib.Core.Bool.{Bool, true, false, not, cond, _&&_, _||_}
+use mathlib.Core.List.{List, [], _∷_}
+use lib.ListN.{length}
+use lib.Dec.{eqb, ltb, leb}
+use Rattle.model.specs.Set.{lengthsOf, size}
+use Rattle.model.specs.Layout.{kindOf, fieldOf, TASK, CLAIM, RELEASE, END}
+use Rattle.model.specs.Read.{Scan, nothingRead, note, holdsNow, holdsSome, outOfOrder, fieldAllowed, tooMany, fault, reads, faulty, close, readFrom, read}
+use Rattle.model.proofs.Tests.{by-test}
+
+cond-le : (b : Bool) (x y m : ℕ) → x ≤ m → y ≤ m → cond b x y ≤ m
+cond-le true x y m h k = h
+cond-le false x y m h k = k
+
+fault-small : (s : Scan) (i k f : ℕ) → fault s i k f ≤ 12
+unfolding fault
+fault-small s i k f =
+    cond-le (s .ended) 3 _ 12 (omega arith)
+    (cond-le (not (leb 1 k && leb k 5)) 4 _ 12 (omega arith)
+    (cond-le (outOfOrder s k) 5 _ 12 (omega arith)
+    (cond-le (not (fieldAllowed s i k f)) 6 _ 12 (omega arith)
+    (cond-le (tooMany s k) 7 _ 12 (omega arith)
+    (cond-le (eqb k CLAIM && holdsNow s f) 8 _ 12 (omega arith)
+    (cond-le (eqb k RELEASE && not (holdsNow s f)) 9 _ 12 (omega arith)
+    (cond-le ((eqb k TASK || eqb k END) && holdsSome s) 10 0 12 (omega arith) (omega arith))))))))
+
+same-number : {n m p q : ℕ} → faulty n p ≡ faulty m q → n ≡ m
+same-number e = cc
+
+close-small : (s : Scan) (i n p : ℕ) → close s i ≡ faulty n p → n ≤ 12
+unfolding close
+close-small s i n p e =
+    by-test (s .ended)
+    (λ d. by-test (ltb 65536 (size (lengthsOf (s .set))))
+    (λ g. omega (arith, same-number (rw (d, g) at e)))
+    (λ g. absurd (never (rw (d, g) at e))))
+    (λ d. omega (arith, same-number (rw d at e)))
+  where
+    never : reads (s .set) ≡ faulty n p → ⊥
+    never q = let z : _≡_ {A = ℕ} 0 1 = cc in omega arith
+
+from-small : (s : Scan) (i : ℕ) (ws : List ℕ) (n p : ℕ) → readFrom s i ws ≡ faulty n p → n ≤ 12
+unfolding readFrom
+from-small s i [] n p e = close-small s i n p e
+from-small s i (w ∷ ws) n p e =
+    by-test (ltb 0 (fault s i (kindOf w) (fieldOf w)))
+    (λ b. omega (arith, same-number (rw b at e), fault-small s i (kindOf w) (fieldOf w)))
+    (λ b. from-small (note s (kindOf w) (fieldOf w)) (suc i) ws n p (rw b at e))
+
+pub read-number : (ws : List ℕ) (n p : ℕ) → read ws ≡ faulty n p → n ≤ 12
+unfolding read
+read-number ws n p e =
+    by-test (eqb (length ws) 0)
+    (λ b. omega (arith, same-number (rw b at e)))
+    (λ b. by-test (ltb 4096 (length ws))
+    (λ c. omega (arith, same-number (rw (b, c) at e)))
+    (λ c. from-small nothingRead 0 ws n p (rw (b, c) at e)))
