@@ -1,12 +1,12 @@
 -- Demand 2 holds.
 use Prim.Native.Nat.{ℕ}
-use mathlib.Core.Path.{_≡_, refl, _∙_, ap, sym}
+use mathlib.Core.Path.{_≡_, refl, ap, _∙_}
 use mathlib.Core.List.{List}
 use lib.ListN.{length, drop}
 use Rattle.model.specs.Set.{Set, lengthsOf}
-use Rattle.model.specs.Read.{read, setOf, setIn}
+use Rattle.model.specs.Read.{setIn}
 use Rattle.model.specs.Hold.{permitted}
-use Rattle.model.specs.Plan.{Plan, planOf, planWords, planFrom}
+use Rattle.model.specs.Plan.{planOf, planWords, planFrom}
 use Rattle.model.specs.Answer.{planned}
 use Rattle.model.specs.Analysis.{analyse}
 use Rattle.model.proofs.ForbiddenExact.{forbidden-exact}

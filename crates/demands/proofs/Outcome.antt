@@ -6,11 +6,11 @@ use mathlib.Core.List.{List}
 use lib.ListN.{length}
 use lib.Dec.{ltb}
 use borrow.Author.Tests.{ltb-false}
-use Rattle.model.specs.Set.{Set, lengthsOf, size}
+use Rattle.model.specs.Set.{lengthsOf, size}
 use Rattle.model.specs.Read.{Reading, reads, faulty, read, setOf}
 use Rattle.model.specs.Plan.{mapOf, planOf, planWords}
-use Rattle.model.specs.Answer.{Answer, planned, refused}
-use Rattle.model.specs.Analysis.{over, Analysed, analyse, analyseSet, analyseReading}
+use Rattle.model.specs.Answer.{planned, refused}
+use Rattle.model.specs.Analysis.{over, analyse, analyseSet, analyseReading}
 use Rattle.model.proofs.Tests.{by-test}
 use Rattle.model.proofs.ReadNumbers.{read-number}
 

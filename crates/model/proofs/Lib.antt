@@ -31,3 +31,7 @@ pub mod Words
 pub mod Faults
 pub mod ReadAccepts
 pub mod ReadExact
+pub mod Records
+pub mod BidAnswers
+pub mod GrantNumber
+pub mod BrokerRecord

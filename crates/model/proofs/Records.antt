@@ -1,0 +1,121 @@
+-- The broker in service: the map as an analysis leaves it in a slice, and what holds of the record between calls.
+use Prim.Native.Nat.{ℕ, zero, suc, _<_, _≤_}
+use native.Mathlib.Omega.{arith}
+use native.Mathlib.Numerals.{add-one}
+use mathlib.Core.Path.{_≡_, refl, ap, _∙_}
+use mathlib.Core.Bool.{true, false}
+use mathlib.Core.List.{List, [], _∷_}
+use lib.ListN.{length, take, drop, set, replicate, length-append, length-set, length-map, List·getD-append}
+use lib.Seq.{getD-take, getD-set-other, take-set-lt}
+use lib.Dec.{eqb, ltb}
+use borrow.Author.Tests.{ltb-true, ltb-false}
+use Rattle.model.specs.Set.{Task, Set, lengths, lengthsOf, at, size}
+use Rattle.model.specs.Layout.{WellFormed}
+use Rattle.model.specs.State.{State, next, unfinished, start, rank}
+use Rattle.model.specs.Hold.{permitted}
+use Rattle.model.specs.Map.{bytes}
+use Rattle.model.specs.Plan.{mapOf}
+use Rattle.model.specs.Analysis.{over}
+use Rattle.model.specs.Broker.{Record, stateIn, misplaced, grant}
+use Rattle.model.proofs.Tests.{by-test, and-true, any-true}
+use Rattle.model.proofs.States.{unfinished-task}
+use Rattle.model.proofs.Ranks.{rank-lt}
+use Rattle.model.proofs.MapExact.{map-right}
+use Rattle.model.proofs.DeadRanks.{length-bytes}
+use Rattle.model.proofs.StartOpen.{start-open}
+use Rattle.model.proofs.Moves.{moves}
+use Rattle.model.proofs.BrokerOpen.{Good, start-grid, moves-good}
+
+-- a slice that holds the map of a set at its front
+pub record Carries (s : Set) (m : List ℕ) : Type 0 where
+  pub room : length (mapOf s) ≤ length m
+  pub same : (r : ℕ) → r < size (lengthsOf s) → at m r ≡ at (mapOf s) r
+
+-- the map has a byte for each state
+pub map-length : (s : Set) → length (mapOf s) ≡ size (lengthsOf s)
+unfolding bytes
+map-length s = length-bytes (lengthsOf s) (permitted s) (size (lengthsOf s))
+
+-- a slice with the map written over its front
+pub over-carries : (s : Set) (slice : List ℕ) → Carries s (over (mapOf s) slice)
+over-carries s slice = record {
+  room = omega (arith, length-append (mapOf s) (drop (length (mapOf s)) slice));
+  same = λ r h. List·getD-append (mapOf s) (drop (length (mapOf s)) slice) 0 r (omega (arith, map-length s));
+}
+
+-- a record in service: eight positions, those of the tasks a state of the grid that is open, the others 0
+pub record Sound (s : Set) (r : Record) : Type 0 where
+  pub eight : length (r .positions) ≡ 8
+  pub good : Good (lengthsOf s) (permitted s) (stateIn s r)
+  pub absent : (t : ℕ) → length (s .tasks) ≤ t → at (r .positions) t ≡ 0
+
+-- as many zeros as there are tasks are the start
+zeros-start : (k : ℕ) (tasks : List Task) → length tasks ≤ k → take (length tasks) (replicate k 0) ≡ start (lengths tasks)
+zeros-start k [] h = refl
+zeros-start zero (task ∷ tasks) h = absurd (omega arith)
+zeros-start (suc k) (task ∷ tasks) h = ap (λ x. 0 ∷ x) (zeros-start k tasks (omega arith))
+
+-- a list of zeros has 0 everywhere
+at-zeros : (k t : ℕ) → at (replicate k 0) t ≡ 0
+at-zeros zero t = refl
+at-zeros (suc k) zero = refl
+at-zeros (suc k) (suc t) = at-zeros k t
+
+module _ (s : Set) (w : WellFormed s) where
+  -- with all positions 0 the state is the start
+  pub start-state : take (length (s .tasks)) (replicate 8 0) ≡ start (lengthsOf s)
+  start-state = zeros-start 8 (s .tasks) (w .tasks)
+
+  -- a record with all positions 0 is fit for service, whatever its grant number
+  pub start-sound : (g : ℕ) → Sound s (record { positions = replicate 8 0; grants = g })
+  start-sound g = record {
+    eight = refl;
+    good = rw start-state (record { grid = start-grid (lengthsOf s); is-open = start-open s w });
+    absent = λ t h. at-zeros 8 t;
+  }
+
+-- a grant moves the state by one step of that task
+pub grant-state : (s : Set) (r : Record) (t : ℕ) → t < length (s .tasks) → stateIn s (grant r t) ≡ next (stateIn s r) t
+grant-state s r t h =
+    rw (take-set-lt, getD-take (length (s .tasks)) (r .positions) t 0 h) (ap (set (stateIn s r) t) (add-one (at (r .positions) t)))
+
+-- only a task of the set moves
+pub moves-task : (s : Set) (x : State) (t : ℕ) → moves (lengthsOf s) (mapOf s) x t ≡ true → t < length (s .tasks)
+moves-task s x t e =
+    let u = and-true (unfinished (lengthsOf s) x t) (eqb (at (mapOf s) (rank (lengthsOf s) (next x t))) 0) e .0 in
+    omega (arith, length-map (s .tasks) length, unfinished-task (lengthsOf s) x t u)
+
+module _ (s : Set) (r : Record) (i : Sound s r) where
+  -- a grant where the state moves leaves the record fit for service
+  pub grant-sound : (t : ℕ) → moves (lengthsOf s) (mapOf s) (stateIn s r) t ≡ true → Sound s (grant r t)
+  grant-sound t e =
+      let h = moves-task s (stateIn s r) t e in
+      record {
+        eight = length-set (r .positions) t _ ∙ i .eight;
+        good = rw (grant-state s r t h) (moves-good (lengthsOf s) (permitted s) (stateIn s r) t (i .good .grid) e);
+        absent = λ u l. getD-set-other (r .positions) t u _ 0 (λ q. omega arith) ∙ i .absent u l;
+      }
+
+  -- no position is over its L, which counts as 0 for an absent task
+  position-fits : (t : ℕ) → at (r .positions) t ≤ at (lengthsOf s) t
+  position-fits t =
+      by-test (ltb t (length (s .tasks)))
+      (λ e. rw (getD-take (length (s .tasks)) (r .positions) t 0 (ltb-true t (length (s .tasks)) e)) at (i .good .grid .fits t))
+      (λ e. omega (arith, i .absent t (ltb-false t (length (s .tasks)) e)))
+
+  -- 16's part on positions does not apply
+  pub not-misplaced : misplaced s r ≡ false
+  unfolding misplaced
+  not-misplaced =
+      by-test (misplaced s r)
+      (λ e.
+      let q = any-true 8 (λ t. ltb (at (lengthsOf s) t) (at (r .positions) t)) e in
+      absurd (omega (arith, ltb-true (at (lengthsOf s) (q .0)) (at (r .positions) (q .0)) (q .2), position-fits (q .0))))
+      (λ e. e)
+
+  -- the record's own byte is 0
+  pub own-byte : (m : List ℕ) → Carries s m → at m (rank (lengthsOf s) (stateIn s r)) ≡ 0
+  own-byte m c =
+      let x = stateIn s r in
+      rw (c .same (rank (lengthsOf s) x) (rank-lt (lengthsOf s) x (i .good .grid)))
+      (map-right (lengthsOf s) (permitted s) x (i .good .grid) .open-state .1 (i .good .is-open))
