@@ -1,0 +1,16 @@
+-- `reader::refuse` meets its contract. Assumes nothing.
+use borrow.Author.Needs.{needs}
+use Rattle.model.specs.Read.{setOf}
+use Rattle.reader.specs.Answer.{verdictOf}
+use Rattle.reader.proofs.refuse.Statement.{statement}
+use Rattle.reader.proofs.refuse.Tie as tie
+
+no-shape-requires : tie.Need-no-shape-requires
+no-shape-requires c κs = search needs
+
+returns : tie.Need-returns
+unfolding verdictOf setOf
+returns c = rw (c .no-shape .ensures)
+
+pub refuse-spec : {M : Type 1} → statement M
+refuse-spec = tie.close (tie.spec no-shape-requires returns)

@@ -1,0 +1,52 @@
+-- How the code's scan follows the model's word by word: for the contracts of the reader's own functions.
+use Prim.Native.Nat.{ℕ, _+_, _≤_}
+use mathlib.Core.Path.{_≡_}
+use mathlib.Core.Bool.{Bool, false, cond}
+use mathlib.Core.List.{List}
+use lib.ListN.{length}
+use lib.Dec.{ltb}
+use Rattle.model.specs.Test.{tabulate}
+use Rattle.model.specs.Layout.{taskWords}
+use Rattle.model.specs.Read.{fault, note, holdsNow}
+use Rattle.model.specs.Read as model
+use Rattle.reader.specs.declared.Shape.{Shape}
+use Rattle.reader.specs.declared.Scan.{Scan}
+use Rattle.reader.specs.declared.Step.{Step}
+use Rattle.reader.specs.declared.Reading.{Reading}
+use Rattle.reader.specs.Answer.{shapeOf, answer}
+
+-- the code's scan for a scan of the model
+abbrev pub scanOf : model.Scan → Scan
+scanOf m = record { shape = shapeOf (m .set); held = tabulate 16 (holdsNow m); ended = m .ended }
+
+-- what holds of each scan after i words without a fault: the limits, the number of words before END, and that the open task holds declared devices only
+pub record Sound (m : model.Scan) (i : ℕ) : Type 0 where
+  pub devices : length (m .set .capacities) ≤ 16
+  pub tasks : length (m .set .tasks) ≤ 8
+  pub words : m .ended ≡ false → i ≡ length (m .set .capacities) + length (taskWords (m .set .tasks))
+  pub declared : (d : ℕ) → length (m .set .capacities) ≤ d → holdsNow m d ≡ false
+
+-- the model's fault of a word, and the scan after it, which a fault leaves as it was
+unfoldable pub stepOf : model.Scan → ℕ → ℕ → ℕ → Step
+stepOf m i k f = let n = fault m i k f in record { fault = n; next = cond (ltb 0 n) (scanOf m) (scanOf (note m k f)) }
+
+-- the step to a scan of this shape
+abbrev pub advanced : Shape → List Bool → Bool → Step
+advanced shape held ended = record { fault = 0; next = record { shape = shape; held = held; ended = ended } }
+
+-- the step r from s is the model's, for the word of kind k and field f at index i
+abbrev pub FollowsAt : ℕ → Scan → ℕ → ℕ → Step → Type 0
+FollowsAt i s k f r = (m : model.Scan) → Sound m i → s ≡ scanOf m → r ≡ stepOf m i k f
+
+-- the same, whatever the index
+abbrev pub Follows : Scan → ℕ → ℕ → Step → Type 0
+Follows s k f r = (i : ℕ) → FollowsAt i s k f r
+
+-- the answer r after n words without a fault is the model's
+abbrev pub Closes : Scan → ℕ → Reading → Type 0
+Closes s n r = (m : model.Scan) → length (m .set .tasks) ≤ 8 → s ≡ scanOf m → r ≡ answer (model.close m n)
+
+-- the counts stay within the arrays
+pub record Bounded (s : Scan) : Type 0 where
+  pub devices : s .shape .devices ≤ 16
+  pub tasks : s .shape .tasks ≤ 8
