@@ -35,3 +35,4 @@ pub mod Records
 pub mod BidAnswers
 pub mod GrantNumber
 pub mod BrokerRecord
+pub mod TableOrder

@@ -1,9 +1,10 @@
--- Facts on `tabulate` and `maximum`.
+-- Facts on `tabulate` and `maximum`, and on a list that is filled.
 use Prim.Native.Nat.{ℕ, zero, suc, _<_, _≤_}
 use native.Mathlib.Omega.{arith}
-use native.Mathlib.Nat.{eq-or-lt-of-le, le-of-suc-le-suc}
-use mathlib.Core.Path.{_≡_, refl, ap}
-use lib.ListN.{length, getD}
+use native.Mathlib.Nat.{eq-or-lt-of-le, le-of-suc-le-suc, le-antisymm}
+use mathlib.Core.Path.{_≡_, refl, ap, _∙_}
+use mathlib.Core.List.{List, _++_, append-nil}
+use lib.ListN.{length, getD, drop, replicate, drop-of-length-le}
 use Rattle.model.specs.Test.{tabulate, maximum}
 use Rattle.model.proofs.Tests.{by-cases}
 
@@ -28,3 +29,7 @@ pub maximum-le : (n : ℕ) (f : ℕ → ℕ) (m : ℕ) → ((t : ℕ) → t < n 
 unfolding maximum
 maximum-le zero f m h = omega arith
 maximum-le (suc n) f m h = omega (arith, h n (omega arith), maximum-le n f m (λ t l. h t (omega arith)))
+
+-- a list filled from its front to its end
+pub filled : (l₀ l : List ℕ) (a i : ℕ) → i ≤ length l₀ → length l₀ ≤ i → l ≡ replicate i a ++ drop i l₀ → l ≡ replicate (length l₀) a
+filled l₀ l a i h k e = e ∙ rw (le-antisymm h k, drop-of-length-le l₀ {i = length l₀} (omega arith), append-nil)

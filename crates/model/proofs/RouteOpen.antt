@@ -22,7 +22,7 @@ use Rattle.model.proofs.Rounds.{end-sum, some-moves}
 
 module _ (ls m : List ℕ) (x : State) where
   -- a task found by the search has a step onto 0
-  step-lands : (k t : ℕ) → stepFrom ls m k t x < t + k → moves ls m x (stepFrom ls m k t x) ≡ true
+  pub step-lands : (k t : ℕ) → stepFrom ls m k t x < t + k → moves ls m x (stepFrom ls m k t x) ≡ true
   unfolding stepFrom
   step-lands zero t h = absurd (omega arith)
   step-lands (suc k) t h =

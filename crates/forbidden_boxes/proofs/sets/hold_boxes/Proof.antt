@@ -1,0 +1,128 @@
+use Prim.Native.Nat.{ℕ, _+_, _*_, _-_}
+use native.Mathlib.Nat.{sub-zero}
+use native.Mathlib.Omega.{arith}
+use mathlib.Core.Path.{_≡_, refl, _∙_}
+use mathlib.Core.List.{List, _∷_}
+use lib.ListN.{length, take, set, length-set}
+use lib.Seq.{set-set}
+use Rattle.model.specs.Set.{at}
+use Rattle.plan_words.proofs.Write.{read-next, read-full}
+use Rattle.plan_words.proofs.Run.{Turn, begins, stored, overflows, ends}
+use Rattle.forbidden_boxes.specs.Choices.{holdWords}
+use Rattle.forbidden_boxes.proofs.sets.hold_boxes.Statement.{statement}
+use Rattle.forbidden_boxes.proofs.sets.hold_boxes.Tie as tie
+
+-- the box with the i-th hold
+abbrev boxAt : List ℕ → ℕ → ℕ → ℕ → List ℕ → ℕ → List ℕ
+boxAt rows header n t sides i = header ∷ take n (set sides t (at rows (t * 128 + i)))
+
+-- of the sides only the task's own changes
+abbrev Inv-loop : tie.InvT-loop
+Inv-loop plan₀ at rows count header tasks task next₀ to₀ i₀ plan next to i =
+    Turn (boxAt rows header tasks task next₀) plan₀ at count plan to i × (length next ≡ 8) × ((v : ℕ) → set next task v ≡ set next₀ task v)
+
+abbrev μ-loop : tie.MeasureT-loop
+μ-loop plan₀ at rows count header tasks task next₀ to₀ i₀ plan next to i = count - i
+
+loop-holds : tie.Need-loop-holds Inv-loop μ-loop
+loop-holds c =
+    let s = c .before .before in
+    let a = s .args in (
+      begins (boxAt (a .rows .now) (a .header) (a .tasks) (a .task) (a .sides)) (a .plan .now) (a .at) (a .count) (omega arith),
+      s .good .1 .1 .1 .1 .1 .1 .1 .0 .1 .0 .1,
+      λ v. refl,
+    )
+
+mul-next : tie.Need-mul-next Inv-loop μ-loop
+mul-next c = omega arith
+
+add-next : tie.Need-add-next Inv-loop μ-loop
+add-next c = omega arith
+
+mul-next-2 : tie.Need-mul-next-2 Inv-loop μ-loop
+mul-next-2 c = omega arith
+
+shared-slice-read-next : tie.Need-shared-slice-read-next Inv-loop μ-loop
+shared-slice-read-next c = omega arith
+
+mul-next-3 : tie.Need-mul-next-3 Inv-loop μ-loop
+mul-next-3 c = omega arith
+
+array-write-next : tie.Need-array-write-next Inv-loop μ-loop
+array-write-next c = omega arith
+
+emit-requires : tie.Need-emit-requires Inv-loop μ-loop
+emit-requires c κs = (omega arith, omega arith)
+
+enum-known-p : tie.Need-enum-known-p Inv-loop μ-loop
+enum-known-p c = c .match .keys1
+
+enum-told : tie.Need-enum-told Inv-loop μ-loop
+enum-told c = c .match .keys2
+
+same-length : tie.Need-same-length Inv-loop μ-loop
+same-length c = c .before .before .before .before .emit .kept .0 ∙ c .before .before .before .before .before .before .before .before .loop .inv .0 .same
+
+returns : tie.Need-returns Inv-loop μ-loop
+unfolding holdWords
+returns c =
+    let b = c .before .before .before .before in
+    let o = b .before .before .before .before .loop in
+    let a = b .before .before .before .before .before .before .before .args in
+    let w = rw (o .inv .2 (at (a .rows .now) (a .task * 128 + o .i)), c .enum-told .given .1) at (b .emit .ensures) in
+    rw (← sub-zero (a .count))
+    (overflows (boxAt (a .rows .now) (a .header) (a .tasks) (a .task) (a .sides)) (a .plan .now) (a .at) (a .count) (o .inv .0)
+    (b .before .before .before .loop-test .taken) (read-full w))
+
+add-i : tie.Need-add-i Inv-loop μ-loop
+add-i c = omega arith
+
+loop-less : tie.Need-loop-less Inv-loop μ-loop
+loop-less c = omega arith
+
+loop-again : tie.Need-loop-again Inv-loop μ-loop
+loop-again c =
+    let b = c .before .before .before .before .before in
+    let o = b .before .before .before .before .loop in
+    let a = b .before .before .before .before .before .before .before .args in
+    let v = at (a .rows .now) (a .task * 128 + o .i) in
+    let w = rw (o .inv .2 v, c .before .p .given .1) at (b .emit .ensures) in (
+      stored (boxAt (a .rows .now) (a .header) (a .tasks) (a .task) (a .sides)) (a .plan .now) (a .at) (a .count) (o .inv .0)
+          (b .before .before .before .loop-test .taken) (read-next w),
+      length-set (o .next) (a .task) v ∙ o .inv .1,
+      λ u. set-set (o .next) (a .task) v u ∙ o .inv .2 u,
+    )
+
+same-length-2 : tie.Need-same-length-2 Inv-loop μ-loop
+same-length-2 c = c .before .loop .inv .0 .same
+
+returns-2 : tie.Need-returns-2 Inv-loop μ-loop
+unfolding holdWords
+returns-2 c =
+    let a = c .before .before .before .before .args in
+    rw (← sub-zero (a .count))
+    (ends (boxAt (a .rows .now) (a .header) (a .tasks) (a .task) (a .sides)) (a .plan .now) (a .at) (a .count) (c .before .loop .inv .0) (c .loop-test .left))
+
+pub hold-boxes-spec : {M : Type 1} → statement M
+hold-boxes-spec =
+    tie.close
+    (tie.spec
+    Inv-loop
+    μ-loop
+    loop-holds
+    mul-next
+    add-next
+    mul-next-2
+    shared-slice-read-next
+    mul-next-3
+    array-write-next
+    emit-requires
+    enum-known-p
+    enum-told
+    same-length
+    returns
+    add-i
+    loop-less
+    loop-again
+    same-length-2
+    returns-2)

@@ -1,0 +1,43 @@
+use Prim.Native.Nat.{_+_, _^_}
+use native.Mathlib.Omega.{arith}
+use mathlib.Core.Path.{sym, _∙_}
+use lib.Count.{ones}
+use lib.Dec.{ltb, eqb}
+use borrow.Author.Needs.{needs}
+use borrow.Author.Tests.{ltb-true, eqb-true}
+use Rattle.model.proofs.Tests.{and-true}
+use Rattle.plan_words.proofs.After.{wrote-none}
+use Rattle.forbidden_boxes.specs.Choices.{setWords}
+use Rattle.forbidden_boxes.proofs.Sides.{not-empty}
+use Rattle.forbidden_boxes.proofs.sets.set_boxes.Statement.{statement}
+use Rattle.forbidden_boxes.proofs.sets.set_boxes.Tie as tie
+
+wanted-requires : tie.Need-wanted-requires
+wanted-requires c κs = search needs
+
+choices-requires : tie.Need-choices-requires
+choices-requires c κs =
+    let s = c .before .before .before .before .before .before in
+    let a = s .args in
+    let r = s .pre .1 .1 in
+    let yes = sym (c .before .before .wanted .ensures) ∙ c .before .if1 .taken in
+    let tests = and-true (ltb (a .mask) (2 ^ a .tasks)) (eqb (ones (a .mask)) (a .capacity + 1)) yes in
+    let fits = ltb-true (a .mask) (2 ^ a .tasks) (tests .0) in
+    let some = not-empty (a .mask) (a .capacity) (eqb-true (ones (a .mask)) (a .capacity + 1) (tests .1)) in
+    (omega arith, (omega arith, (r .0, (fits, (some, r .1)))))
+
+same-length : tie.Need-same-length
+same-length c = search needs
+
+returns : tie.Need-returns
+unfolding setWords
+returns c =
+    let w = c .before .before .before .before in
+    rw (sym (w .before .wanted .ensures) ∙ w .if1 .taken) (c .before .before .choices .ensures)
+
+returns-2 : tie.Need-returns-2
+unfolding setWords
+returns-2 c = rw (sym (c .before .wanted .ensures) ∙ c .if1 .left) (wrote-none (omega arith))
+
+pub set-boxes-spec : {M : Type 1} → statement M
+set-boxes-spec = tie.close (tie.spec wanted-requires choices-requires same-length returns returns-2)

@@ -1,0 +1,81 @@
+-- A loop that writes what f gives for each number below count, one after the other: one law for every such loop.
+use mathlib.Core.Path.{_≡_, refl, sym, ap, subst₂, _∙_}
+use mathlib.Core.List.{List, [], _++_}
+use Prim.Native.Nat.{ℕ, suc, _+_, _-_, _≤_, _<_}
+use native.Mathlib.Omega.{arith}
+use lib.ListN.{length, length-append}
+use Rattle.plan_words.specs.declared.Placed.{Placed}
+use Rattle.plan_words.specs.Words.{write, Wrote, upTo}
+use Rattle.plan_words.proofs.Write.{Fits, length-write, write-none, write-then, wrote-next, wrote-full}
+
+module _ (f : ℕ → List ℕ) (p₀ : List ℕ) (at count : ℕ) where
+  -- what is to write at the i-th number
+  abbrev pub rest : ℕ → List ℕ
+  rest i = upTo (count - i) i f
+
+  -- before the i-th number: what is written and what is left to write make together what was to write
+  pub record Turn (p : List ℕ) (to i : ℕ) : Type 0 where
+    pub within : i ≤ count
+    pub same : length p ≡ length p₀
+    pub room : to ≤ length p₀
+    pub sum : to + length (rest i) ≡ at + length (rest 0)
+    pub words : at + length (rest 0) ≤ length p₀ → write p to (rest i) ≡ write p₀ at (rest 0)
+
+  pub begins : at ≤ length p₀ → Turn p₀ at 0
+  begins h = record { within = omega arith; same = refl; room = h; sum = refl; words = λ _. refl }
+
+  pub moved : {p p′ : List ℕ} {to to′ i : ℕ} → p′ ≡ p → to′ ≡ to → Turn p to i → Turn p′ to′ i
+  moved {p} {p′} {to} {to′} {i} e k now = subst₂ (λ (x : List ℕ) (y : ℕ). Turn x y i) (sym e) (sym k) now
+
+  -- what is left, one number further
+  next : (i : ℕ) → i < count → rest i ≡ f i ++ rest (i + 1)
+  unfolding upTo
+  next i h = let s : count - i ≡ suc (count - (i + 1)) = omega arith in ap (λ (k : ℕ). upTo k i f) s
+
+  none : (i : ℕ) → count ≤ i → rest i ≡ []
+  unfolding upTo
+  none i h = let s : count - i ≡ 0 = omega arith in ap (λ (k : ℕ). upTo k i f) s
+
+  module _ {p : List ℕ} {to i : ℕ} (now : Turn p to i) (h : i < count) where
+    split : length (rest i) ≡ length (f i) + length (rest (i + 1))
+    split = ap length (next i h) ∙ length-append (f i) (rest (i + 1))
+
+    -- what the i-th number gives is written
+    pub stored : {r : ℕ} {q : List ℕ} → Fits p to (f i) r q → Turn q r (i + 1)
+    stored {r} {q} w =
+        let l : length (rest i) ≡ length (f i) + length (rest (i + 1)) = split in
+        let k : length q ≡ length p = ap length (w .words) ∙ length-write p to (f i) (w .fit) in
+        record {
+          within = omega arith;
+          same = k ∙ now .same;
+          room = omega arith;
+          sum = omega arith;
+          words = λ g.
+              ap (λ (x : List ℕ). write x r (rest (i + 1))) (w .words)
+              ∙ ap (λ (x : ℕ). write (write p to (f i)) x (rest (i + 1))) (w .next)
+              ∙ write-then p to (f i) (rest (i + 1)) (omega arith)
+              ∙ ap (write p to) (sym (next i h)) ∙ now .words g;
+        }
+
+    -- the i-th number gives nothing
+    pub skipped : f i ≡ [] → Turn p to (i + 1)
+    skipped e =
+        let s : rest i ≡ rest (i + 1) = next i h ∙ ap (λ (l : List ℕ). l ++ rest (i + 1)) e in
+        record {
+          within = omega arith;
+          same = now .same;
+          room = now .room;
+          sum = ap (λ (l : List ℕ). to + length l) (sym s) ∙ now .sum;
+          words = λ k. ap (write p to) (sym s) ∙ now .words k;
+        }
+
+    -- what it gives doesn't fit
+    pub overflows : {q : List ℕ} → length p < to + length (f i) → Wrote p₀ at (rest 0) Placed.Full q
+    overflows w = wrote-full (omega (arith, split))
+
+  pub ends : {p : List ℕ} {to i : ℕ} → Turn p to i → count ≤ i → Wrote p₀ at (rest 0) (Placed.Next to) p
+  ends {p} {to} {i} now h =
+      let s : rest i ≡ [] = none i h in
+      let k : length (rest i) ≡ 0 = ap length s in
+      let g : at + length (rest 0) ≤ length p₀ = omega arith in
+      wrote-next g (omega arith) (sym (write-none p to (omega arith)) ∙ ap (write p to) (sym s) ∙ now .words g)

@@ -1,0 +1,691 @@
+"""Makes what the program `corpus` is run on, and what it must print: crates/corpus/stdin and crates/corpus/stdout.
+
+    python3 tests/make_corpus.py            writes both files
+    python3 tests/make_corpus.py --check    makes them again and fails if the files in the tree differ
+
+The cases come from a fixed seed by a generator of this file's own, so they don't depend on Python's version. What is expected comes from tests/brute.py.
+
+Input. Little-endian 32-bit words: the number of cases, then the cases. A case is
+    a header of four words: the number of the set's words, the map slice's length, the plan slice's length, the number of calls;
+    the set's words;
+    the calls, four words each: its kind and three values, 0 where there are fewer.
+The limits are the MAX_ numbers below. Each case starts with a fresh record, a map slice of bytes AA and a plan slice of words AAAAAAAA. The set is analysed
+into the two slices, then the calls are made in order, accepted or not, on what the analysis left:
+    0 BID task                         a bid by value
+    1 AGAIN
+    2 ROUTE length                     a route into a slice of that length, filled with AA before
+    3 RECORD positions, positions, grants  the record is replaced; tasks 0 to 3, then 4 to 7, a byte each, lowest first
+    4 POKE rank, byte                  one byte of the map is replaced
+    5 LEND length                      later bids and routes are lent only that much of the map slice
+    6 BID_IN_PLACE task                a bid over the record
+    7 ROUNDS times, tasks, count       so many times the bids of the first `count` hexadecimal digits of `tasks`, the lowest digit first
+
+Output, a line each:
+    case NUMBER: planned WORDS         or refused N at P
+    map:DIGITS                         the whole slice: 0 to 3, '.' for AA, '?' for anything else; over 256 bytes '~' and the checksum
+    plan: WORD WORD ..                 the whole slice in hexadecimal; over 32 words '~' and the checksum
+and for each call that prints
+    ANSWER [POSITIONS] GRANTS          for a bid or an again: granted, finished, busy D, held R, restarted or refused N at P, and the record after it
+    ANSWER:STEPS                       for a route: routed LENGTH or refused N at P; the whole slice, a digit a task, '.' for AA, 'x' for 255, '?' otherwise
+    rounds G F B H R [POSITIONS] GRANTS  how many bids were granted, finished, busy, held and refused, and the record after them
+RECORD, POKE and LEND print nothing. The checksum is FNV-1a of 32 bits over the slice's bytes, a word's lowest byte first, in eight hexadecimal digits.
+"""
+
+import os
+import sys
+
+import brute
+from brute import CLAIM, DEVICE, END, FRESH, RELEASE, TASK, Record, Set, grid_of, lengths_of, words_of
+
+MAX_SET = 4097
+MAX_MAP = 65600
+MAX_PLAN = 16400
+MAX_ROUTE = 512
+MAX_CALLS = 512
+
+BID, AGAIN, ROUTE, RECORD, POKE, LEND, BID_IN_PLACE, ROUNDS = range(8)
+
+MAP_FILL, PLAN_FILL = 0xAA, 0xAAAAAAAA
+
+SEED = 0x7469726C757A6B61
+
+HERE = os.path.dirname(os.path.abspath(__file__))
+FILES = [os.path.join(HERE, "..", "crates", "corpus", name) for name in ("stdin", "stdout")]
+
+
+class Dice:
+    """Numbers by xorshift64*, the same on every machine."""
+
+    def __init__(self, seed):
+        self.state = seed
+
+    def bits(self):
+        x = self.state
+        x ^= x >> 12
+        x ^= (x << 25) & (2**64 - 1)
+        x ^= x >> 27
+        self.state = x
+        return ((x * 0x2545F4914F6CDD1D) & (2**64 - 1)) >> 32
+
+    def below(self, n):
+        """0 to n - 1."""
+        return self.bits() * n >> 32
+
+    def between(self, low, high):
+        return low + self.below(high - low + 1)
+
+    def one_in(self, n):
+        return self.below(n) == 0
+
+    def pick(self, items):
+        return items[self.below(len(items))]
+
+    def mixed(self, items):
+        """The items in another order."""
+        rest, out = list(items), []
+        while rest:
+            out.append(rest.pop(self.below(len(rest))))
+        return out
+
+
+class Case:
+    """A set's words, the lengths of the slices, and the calls; `finishes` where the calls must leave every task finished."""
+
+    def __init__(self, words, map_length, plan_length, calls=(), finishes=False):
+        self.words = list(words)
+        self.map_length = map_length
+        self.plan_length = plan_length
+        self.calls = [tuple(call) + (0,) * (4 - len(call)) for call in calls]
+        self.finishes = finishes
+
+
+# --- What a case must print ---
+
+
+def fnv(data):
+    value = 0x811C9DC5
+    for byte in data:
+        value = (value ^ byte) * 0x01000193 & 0xFFFFFFFF
+    return value
+
+
+def map_text(slice_):
+    if len(slice_) > 256:
+        return "~%08X" % fnv(slice_)
+    return "".join("." if byte == MAP_FILL else "0123"[byte] if byte <= 3 else "?" for byte in slice_)
+
+
+def plan_text(slice_):
+    if len(slice_) > 32:
+        return " ~%08X" % fnv(b"".join(word.to_bytes(4, "little") for word in slice_))
+    return "".join(" %08X" % word for word in slice_)
+
+
+def route_text(slice_):
+    return "".join("." if byte == MAP_FILL else "x" if byte == 255 else "01234567"[byte] if byte <= 7 else "?" for byte in slice_)
+
+
+def answer_text(answer):
+    if answer[0] == "refused":
+        return "refused %d at %d" % answer[1:]
+    return " ".join(str(part) for part in answer)
+
+
+def record_text(record):
+    return "[%s] %d" % (" ".join(str(position) for position in record.positions), record.grants)
+
+
+class Play:
+    """One case played: the lines that it must print, and what is asserted on the way."""
+
+    def __init__(self, number, case):
+        self.words = case.words
+        self.record = FRESH
+        self.lines = []
+        answer, map_, plan = brute.analyse(case.words, [MAP_FILL] * case.map_length, [PLAN_FILL] * case.plan_length)
+        self.answer, self.map, self.lent = answer, map_, len(map_)
+        self.lines.append("case %d: %s" % (number, answer_text(answer)))
+        self.lines.append("map:%s" % map_text(map_))
+        self.lines.append("plan:%s" % plan_text(plan))
+        for call in case.calls:
+            self.call(*call)
+        if case.finishes:
+            s = brute.read_set(case.words)
+            assert self.record.positions[: len(s.tasks)] == lengths_of(s), "case %d must end with every task finished" % number
+
+    def bid(self, task):
+        answer, self.record = brute.bid(self.words, self.map[: self.lent], self.record, task)
+        return answer
+
+    def rounds(self, times, tasks, count):
+        counts = {"granted": 0, "finished": 0, "busy": 0, "held": 0, "refused": 0}
+        for _ in range(times):
+            for place in range(count):
+                counts[self.bid(tasks >> 4 * place & 15)[0]] += 1
+        return "rounds %s" % " ".join(str(counts[name]) for name in counts)
+
+    def call(self, kind, a, b, c):
+        if kind in (BID, BID_IN_PLACE):
+            self.lines.append("%s %s" % (answer_text(self.bid(a)), record_text(self.record)))
+        elif kind == AGAIN:
+            answer, self.record = brute.again(self.words, self.record)
+            self.lines.append("%s %s" % (answer_text(answer), record_text(self.record)))
+        elif kind == ROUTE:
+            answer, steps = brute.route(self.words, self.map[: self.lent], self.record, [MAP_FILL] * a)
+            self.lines.append("%s:%s" % (answer_text(answer), route_text(steps)))
+        elif kind == RECORD:
+            self.record = Record(tuple(a.to_bytes(4, "little") + b.to_bytes(4, "little")), c)
+        elif kind == POKE:
+            self.map = self.map[:a] + [b] + self.map[a + 1 :]
+        elif kind == LEND:
+            self.lent = a
+        elif kind == ROUNDS:
+            self.lines.append("%s %s" % (self.rounds(a, b, c), record_text(self.record)))
+
+
+# --- Sets ---
+
+
+def random_task(dice, devices, length, release):
+    """A task of at most that many actions, an even number, on devices numbered below `devices`; it releases one time in `release`."""
+    task, held = [], []
+    while len(task) + len(held) + 2 <= length:
+        free = [device for device in range(devices) if device not in held]
+        if held and (not free or dice.one_in(release)):
+            task.append((RELEASE, held.pop(dice.below(len(held)))))
+        elif free:
+            device = dice.pick(free)
+            task.append((CLAIM, device))
+            held.append(device)
+        else:
+            break
+    return task + [(RELEASE, device) for device in dice.mixed(held)]
+
+
+def random_tasks(dice, lengths, devices, release, limit):
+    """A task for each length that still fits the limit on the grid; idle where none does."""
+    tasks, grid = [], 1
+    for length in lengths:
+        while grid * (length + 1) > limit:
+            length -= 2
+        tasks.append(random_task(dice, devices, length, release))
+        grid *= len(tasks[-1]) + 1
+    return dice.mixed(tasks)
+
+
+def deep_set(dice, limit):
+    """Two to four tasks that claim several scarce devices one inside the other: where states are unsafe."""
+    devices = dice.between(2, 4)
+    lengths = [dice.pick([4, 6, 6, 8, 8, 10, 12]) for _ in range(dice.pick([2, 2, 2, 3, 3, 4]))]
+    capacities = [dice.pick([1, 1, 1, 1, 1, 2]) for _ in range(devices)]
+    return Set(capacities, random_tasks(dice, lengths + [0] * dice.pick([0, 0, 0, 1, 2]), devices, dice.pick([3, 5, 9]), limit))
+
+
+def wide_set(dice, limit):
+    """Three to eight tasks, mostly short, on a few devices of any capacity."""
+    devices = dice.between(1, 3)
+    lengths = [dice.pick([2, 2, 2, 4, 4, 6]) for _ in range(dice.between(3, 8))]
+    return Set([dice.pick([1, 1, 2, 2, 3, 4, 5]) for _ in range(devices)], random_tasks(dice, lengths, devices, dice.pick([2, 4]), limit))
+
+
+def loose_set(dice, limit):
+    """Any number of tasks, some idle, and devices that may stay unused."""
+    devices = dice.pick([0, 1, 1, 2, 3, 5, 16])
+    lengths = [dice.pick([0, 2, 4, 6, 10, 16, 20]) for _ in range(dice.between(1, 8))]
+    used = min(devices, dice.pick([1, 2, 3, 16]))
+    return Set([dice.between(1, 8) if dice.one_in(2) else 1 for _ in range(devices)], random_tasks(dice, lengths, used, 3, limit))
+
+
+def random_set(dice, limit):
+    """A set whose grid is at most `limit`."""
+    return dice.pick([deep_set, deep_set, deep_set, wide_set, wide_set, loose_set])(dice, limit)
+
+
+def tight_set(dice, limit):
+    """Of four random sets the first with an unsafe state that is not dead, or else the last."""
+    for _ in range(4):
+        s = random_set(dice, limit)
+        if brute.UNSAFE in brute.map_of(s):
+            break
+    return s
+
+
+def ring(count):
+    """Philosophers: each claims its own fork and the next one's."""
+    return Set([1] * count, [[(CLAIM, i), (CLAIM, (i + 1) % count), (RELEASE, i), (RELEASE, (i + 1) % count)] for i in range(count)])
+
+
+def crossing(depth):
+    """Two tasks that claim the same devices in opposite orders."""
+    up = [(CLAIM, d) for d in range(depth)] + [(RELEASE, d) for d in reversed(range(depth))]
+    down = [(CLAIM, d) for d in reversed(range(depth))] + [(RELEASE, d) for d in range(depth)]
+    return Set([1] * depth, [up, down])
+
+
+def users(capacity, count, holds):
+    """So many tasks that each claim and release one device so many times."""
+    return Set([capacity], [[(CLAIM, 0), (RELEASE, 0)] * holds] * count)
+
+
+def long_tasks(lengths, capacities=(1,)):
+    """Tasks of these even action counts, all on device 0."""
+    return Set(list(capacities), [[(CLAIM, 0), (RELEASE, 0)] * (length // 2) for length in lengths])
+
+
+def apart(lengths):
+    """Tasks of these even action counts, each on a device of its own, but the first and the last claim of each is of one that all share."""
+    tasks = []
+    for t, length in enumerate(lengths):
+        pair = [(CLAIM, t + 1), (RELEASE, t + 1)]
+        tasks.append([(CLAIM, 0), (RELEASE, 0)] + pair * (length // 2 - 1))
+    return Set([1] * (len(lengths) + 1), tasks)
+
+
+# Sets in which a next state lies in several boxes and it counts which of them is the blocker: the number of devices, all of capacity 1, and the tasks, with + for a
+# claim and - for a release. They are rare among random sets.
+SEVERAL_BLOCKERS = [
+    "3 +0+2+1-2-1+2-0-2 +1+2+0-0-2-1",
+    "3 +1+0+2-0-2-1 +2+0+1-0-1+0-0-2",
+    "3 +2+0+1-0-1+0-2-0 +1+0+2-0-1-2",
+    "3 +1+0-1+2-2-0 +2+0+1-0+0-2-1-0",
+    "3 +2+1+0-1+1-1-2-0 +0+1-0+2-1-2",
+    "3 +1-1+1+2+0-0-2+2-1-2 +0+2+1-0-2-1",
+    "3 +0+1+2-1-0-2 +1+2-2+2+0-0-1+1-2-1",
+    "3 +0+2-0+1-1-2 +1+2+0-0+0-2+2-0-1-2",
+    "4 +1+0-1+3-0-3 +1-1+0+3+1-0+0-1-3-0",
+    "3 +0+2-0+1-2-1 +2+1+0-2+2-2+2-0-2-1",
+    "3 +2+0+1-0+0-0-2-1 +1+0-1+2+1-2-0-1",
+    "3 +0+1+2-1+1-0-2-1 +0+2-0+1-2+0-1-0",
+    "4 +1+0+3+2-0-2-1-3 +0+2+1-1-0+3+0-0-2-3",
+    "5 +4+2+3-4-3+4-2-4 +0+4-0-4+3+4+2-3-4-2",
+    "3 +0+2+1-0+0-2-0-1 +0+1-0+0-1+2+1-2-0-1",
+]
+
+
+def written_set(text):
+    """A set from that notation."""
+    devices, *tasks = text.split()
+    return Set([1] * int(devices), [[(CLAIM if task[i] == "+" else RELEASE, int(task[i + 1])) for i in range(0, len(task), 2)] for task in tasks])
+
+
+def named_sets():
+    """Families whose shape is known."""
+    sets = [ring(n) for n in (2, 3, 4)] + [crossing(n) for n in range(1, 7)]
+    sets += [users(capacity, count, 1) for capacity in range(1, 9) for count in range(1, 6)]
+    sets += [users(1, 2, 3), users(1, 2, 8), users(2, 3, 3), users(3, 4, 2)]
+    sets += [Set([1] * n, [[]] * t) for n in (0, 1, 16) for t in (1, 2, 8)]
+    sets += [Set(s.capacities, [[]] * k + s.tasks + [[]] * k) for s in (crossing(2), ring(3)) for k in (1, 2)]
+    sets += [Set([1] * 14 + s.capacities, [[(kind, d + 14) for kind, d in task] for task in s.tasks]) for s in (crossing(2),)]
+    sets += [written_set(text) for text in SEVERAL_BLOCKERS]
+    return sets
+
+
+def large_sets():
+    """A few that are large: the largest grid, many tasks, many boxes."""
+    idle = [[]] * 6
+    return [
+        ring(5),
+        users(1, 8, 1),
+        users(7, 8, 1),
+        users(8, 8, 1),
+        Set([1], users(1, 2, 24).tasks + idle),
+        apart([12, 70, 70]),
+        apart([254, 254]),
+        long_tasks([254]),
+        long_tasks([254, 0, 0, 0, 0, 0, 0, 0], [8]),
+    ]
+
+
+# --- Calls ---
+
+
+def record_call(positions, grants):
+    low, high = (int.from_bytes(bytes(part), "little") for part in (positions[:4], positions[4:]))
+    return (RECORD, low, high, grants)
+
+
+def any_task(dice, s):
+    """Mostly a task of the set, now and then a number that is none's."""
+    if dice.one_in(12):
+        return dice.pick([len(s.tasks), 8, 9, 15, 255, 256, 0x7FFFFFFF, 0xFFFFFFFF])
+    return dice.below(len(s.tasks))
+
+
+def random_calls(dice, s, count):
+    """Bids of both kinds, agains and routes."""
+    actions = sum(lengths_of(s))
+    calls = []
+    for _ in range(count):
+        kind = dice.below(12)
+        if kind < 9:
+            calls.append((dice.pick([BID, BID_IN_PLACE]), any_task(dice, s)))
+        elif kind < 10:
+            calls.append((AGAIN,))
+        else:
+            calls.append((ROUTE, min(MAX_ROUTE, dice.pick([0, actions, actions + 2, dice.below(actions + 1)]))))
+    return calls
+
+
+def round_calls(dice, s, rounds):
+    """So many rounds: each names every task at least once, in some order, now and then one more or a number that is none's."""
+    calls = []
+    while rounds > 0:
+        tasks = dice.mixed(list(range(len(s.tasks))) + ([dice.below(10)] if len(s.tasks) < 8 and dice.one_in(3) else []))
+        times = dice.between(1, min(rounds, 4))
+        calls.append((ROUNDS, times, sum(task << 4 * place for place, task in enumerate(tasks)), len(tasks)))
+        rounds -= times
+    return calls
+
+
+def wrap_calls(dice, s):
+    """A grant number near the wrap, and grants over it."""
+    return [record_call([0] * 8, 0xFFFFFFFF - dice.below(4))] + [(dice.pick([BID, BID_IN_PLACE]), dice.below(len(s.tasks))) for _ in range(10)]
+
+
+def random_positions(dice, s):
+    lengths = lengths_of(s)
+    return [dice.between(0, length) for length in lengths] + [0] * (8 - len(lengths))
+
+
+def spoilt_positions(dice, s):
+    """Positions with one over its L, or not 0 for an absent task."""
+    positions = random_positions(dice, s)
+    task = dice.below(8)
+    length = lengths_of(s)[task] if task < len(s.tasks) else 0
+    positions[task] = dice.pick([length + 1, dice.between(length + 1, 255), 255])
+    return positions
+
+
+def spoilt_record_calls(dice, s):
+    """Records at any state and beyond, each with a bid, an again and a route."""
+    calls = []
+    for _ in range(4):
+        positions = dice.pick([random_positions, spoilt_positions, random_positions])(dice, s)
+        calls.append(record_call(positions, dice.bits()))
+        calls += dice.mixed([(BID, any_task(dice, s)), (BID_IN_PLACE, any_task(dice, s)), (AGAIN,), (ROUTE, min(MAX_ROUTE, sum(lengths_of(s))))])
+    return calls
+
+
+def end_calls(dice, s):
+    """At the end: routes of no step, bids that find their task finished, again."""
+    lengths = list(lengths_of(s)) + [0] * (8 - len(s.tasks))
+    tail = [(BID, dice.below(len(s.tasks))), (ROUTE, dice.below(4)), (AGAIN,), (BID_IN_PLACE, dice.below(len(s.tasks))), (AGAIN,)]
+    return [record_call(lengths, dice.bits())] + tail
+
+
+def edge_calls(dice, s):
+    """Bids of every task at open states that are a step away from one that is not open, and routes from states of every byte."""
+    states, bytes_ = brute.states_of(s), brute.map_of(s)
+    shut = {state for state, byte in zip(states, bytes_) if byte != brute.OPEN}
+    tasks = range(len(s.tasks))
+    edges = [state for state in states if state not in shut and any(brute.next_state(state, task) in shut for task in tasks)]
+    unsafe = [state for state, byte in zip(states, bytes_) if byte in (brute.UNSAFE, brute.DEAD)]
+    calls = []
+    for some in (edges, edges, edges, unsafe, states):
+        if some:
+            calls.append(record_call(list(dice.pick(some)) + [0] * (8 - len(s.tasks)), dice.bits()))
+            calls.append((ROUTE, min(MAX_ROUTE, sum(lengths_of(s)))))
+            calls += [(dice.pick([BID, BID_IN_PLACE]), task) for task in dice.mixed(tasks)]
+    return calls
+
+
+def spoilt_map_calls(dice, s):
+    """Map bytes replaced in places, each followed by calls at the state itself, at one a step before it and at the start."""
+    open_states = [state for state, byte in zip(brute.states_of(s), brute.map_of(s)) if byte == brute.OPEN]
+    calls = []
+    for _ in range(dice.between(1, 4)):
+        before = list(dice.pick(open_states))
+        left = [task for task, length in enumerate(lengths_of(s)) if before[task] < length]
+        state = list(brute.next_state(tuple(before), dice.pick(left))) if left else before
+        calls.append((POKE, brute.rank_of(s, state), dice.pick([0, 1, 2, 3, 4, 5, 128, 255])))
+        for positions in (before, dice.pick([state, before, [0] * len(state)])):
+            calls.append(record_call(positions + [0] * (8 - len(positions)), dice.below(1000)))
+            calls += [(dice.pick([BID, BID_IN_PLACE]), task) for task in range(len(s.tasks))]
+            calls.append((ROUTE, min(MAX_ROUTE, sum(lengths_of(s)) + dice.below(2))))
+    return calls
+
+
+def short_route_calls(dice, s):
+    """Routes with a slice too short by one, by more, exact and longer."""
+    calls = []
+    for _ in range(3):
+        positions = dice.pick([[0] * 8, random_positions(dice, s)])
+        left = sum(lengths_of(s)) - sum(positions)
+        calls.append(record_call(positions, 0))
+        calls += [(ROUTE, min(MAX_ROUTE, length)) for length in (max(0, left - 1), dice.below(left + 1), left, left + 3)]
+    return calls
+
+
+def lend_calls(dice, s):
+    """Bids, agains and routes lent a map that is too short, empty, exact."""
+    grid = grid_of(s)
+    calls = []
+    for length in (grid - 1, 0, dice.below(grid), grid):
+        calls.append((LEND, length))
+        calls += [(BID, any_task(dice, s)), (BID_IN_PLACE, any_task(dice, s)), (ROUTE, dice.below(8)), (AGAIN,)]
+    return calls
+
+
+# --- Word lists that are refused ---
+
+
+def joined(*parts):
+    """Words from (kind, field) pairs; END's field is filled in where it is None."""
+    words = []
+    for kind, field in parts:
+        words.append(kind << 28 | (len(words) if field is None else field))
+    return words
+
+
+def closed(words):
+    """The words with an END behind them."""
+    return words + [END << 28 | len(words)]
+
+
+def small_product(dice):
+    """Action counts whose grid is over 65,536 but small when cut to 32 bits."""
+    while True:
+        lengths = [2 * dice.between(60, 127) for _ in range(8)]
+        product = 1
+        for length in lengths:
+            product *= length + 1
+        if product % 2**32 <= 65536:
+            return lengths
+
+
+def faulty_lists(dice):
+    """Lists made for each refusal, at several places, some with several faults at once."""
+    d, t, c, r, e = ((kind, 0) for kind in (DEVICE, TASK, CLAIM, RELEASE, END))
+    one, end = (DEVICE, 1), (END, None)
+    lists = [[]]
+    lists += [[0x20000000] * count for count in (4096, 4097)] + [[0] * 4097, closed([0x20000000]) + [0] * 4095]
+    good = [joined(t, end), joined(one, t, c, r, end), joined(one, one, t, c, (CLAIM, 1), r, (RELEASE, 1), t, end)]
+    for words in good:
+        for more in ([0], [0x50000000], [0x20000000], [END << 28 | len(words)], [0xFFFFFFFF, 0x10000001]):
+            lists.append(words + more)
+        for kind in (0, 6, 7, 8, 9, 15):
+            for place in range(len(words)):
+                lists.append(words[:place] + [kind << 28 | dice.below(3)] + words[place + 1 :])
+                lists.append(words[:place] + [kind << 28 | dice.bits() >> 4] + words[place:])
+    lists += [joined(*parts) for parts in ([c], [r], [e], [one, c], [one, end], [end], [one, (CLAIM, 5)], [t, one, end], [one, t, c, (DEVICE, 9)])]
+    for capacity in (0, 9, 10, 16, 0x0000101, 0x1000001, 0x8000000, 0xFFFFFFF):
+        lists.append(joined((DEVICE, capacity), t, end))
+        lists.append(joined(one, (DEVICE, capacity), t, c, r, end))
+    for field in (1, 8, 0x8000000, 0xFFFFFFF):
+        lists += [joined((TASK, field), end), joined(one, t, c, r, (TASK, field), end), joined(one, t, c, (TASK, field), end)]
+        lists += [joined(one, t, (CLAIM, field), r, end), joined(one, t, c, (RELEASE, field), end), joined(t, (CLAIM, field), end)]
+        lists += [joined(t, (END, field + 1)), joined(one, t, c, r, (END, field)), joined(one, t, c, (END, field + 3))]
+    lists += [joined(t, c, end), joined(t, r, end)]
+    for count in (15, 16, 17, 18):
+        for capacity in (1, 9):
+            lists.append(joined(*[one] * (count - 1), (DEVICE, capacity), t, end))
+    for count in (7, 8, 9, 10):
+        lists += [joined(one, *[t] * count, end), joined(one, *[t] * (count - 1), c, (TASK, 0), r, end), joined(one, *[t] * (count - 1), (TASK, 1), end)]
+        lists += [joined(one, *[t, c, r] * count, end), joined(one, *[t, c, r] * (count - 1), t, c, end)]
+    for count in (253, 254, 255, 256, 257):
+        pairs = [c, r] * 129
+        lists += [joined(one, t, *pairs[:count], end), joined(one, t, *pairs[:count], t, end), joined(one, t, t, *pairs[:count])]
+        lists += [joined(one, t, *pairs[: count - 1], (CLAIM, 1), end), joined(one, t, *pairs[: count - 1], pairs[count], end)]
+    lists += [joined(one, t, c, c), joined(one, t, c, r, r), joined(one, t, r), joined(one, t, c, t, end), joined(one, t, c, end)]
+    lists += [joined(one, one, t, c, (CLAIM, 1), r, end), joined(one, one, t, c, (RELEASE, 1), end), joined(one, t, c, t, r, end)]
+    lists += [joined(one), joined(t), joined(one, t, c), joined(one, t, c, r), joined(*[one] * 16), joined(one, *[t] * 8)]
+    lists += [words_of(*long_tasks(lengths)) for lengths in ([254, 254, 2], [10, 58, 100], [254] * 8, [2] * 3 + [254, 254], [254, 0, 254, 0, 2], [4] * 8)]
+    lists += [words_of(*long_tasks(small_product(dice))) for _ in range(3)] + [words_of(*long_tasks([254, 254, 2]))[:-1]]
+    return lists
+
+
+def mutated(dice, words):
+    """The words with one to three changes: a bit turned, a word dropped, doubled, moved or made up."""
+    words = list(words)
+    for _ in range(dice.between(1, 3)):
+        place = dice.below(len(words)) if words else 0
+        change = dice.below(6)
+        if change == 0 and words:
+            words[place] ^= 1 << dice.below(32)
+        elif change == 1 and words:
+            del words[place]
+        elif change == 2 and words:
+            words.insert(place, words[place])
+        elif change == 3 and words:
+            words.insert(dice.below(len(words)), words.pop(place))
+        elif change == 4:
+            words.insert(place, dice.below(7) << 28 | dice.below(4))
+        elif words:
+            words[place] = dice.between(1, 5) << 28 | dice.below(4)
+    return closed(words[:-1]) if words and dice.one_in(2) else words
+
+
+# --- The cases ---
+
+
+def plan_length(s):
+    """How many words the plan has."""
+    return len(brute.plan_of(s))
+
+
+def fitting(dice, s, calls, finishes=False):
+    """A case whose slices are long enough, exactly or with room."""
+    room, more = dice.pick([0, 0, 1, 3]), dice.pick([0, 0, 1, 2])
+    return Case(words_of(*s), min(MAX_MAP, grid_of(s) + room), plan_length(s) + more, calls, finishes)
+
+
+def short_cases(dice, s):
+    """Slices that are too short: by one, empty, by more; both; and a plan slice that fits exactly."""
+    words, grid, plan = words_of(*s), grid_of(s), plan_length(s)
+    calls = random_calls(dice, s, 4)
+    return [
+        Case(words, grid - 1, plan, calls),
+        Case(words, dice.below(grid), dice.below(plan + 1), calls),
+        Case(words, grid + dice.below(3), plan - 1, round_calls(dice, s, sum(lengths_of(s))), True),
+        Case(words, grid, dice.below(plan), calls),
+        Case(words, grid, plan, calls),
+    ]
+
+
+def refused_case(dice, words):
+    """Words that may be refused, with small slices and every kind of call."""
+    accepted = isinstance(brute.read_set(words), Set)
+    long_map = min(MAX_MAP, grid_of(brute.read_set(words))) if accepted else dice.below(12)
+    calls = [(BID, dice.below(9)), (AGAIN,), (ROUTE, dice.below(6)), (BID_IN_PLACE, dice.below(9))]
+    return Case(words, long_map, dice.below(20), [record_call([dice.below(3)] + [0] * 7, dice.bits())] + calls if dice.one_in(3) else calls)
+
+
+def small_cases(dice):
+    """The random sets, one kind of calls each in turn."""
+    kinds = [
+        lambda s: random_calls(dice, s, dice.between(4, 24)),
+        lambda s: random_calls(dice, s, dice.between(4, 24)),
+        lambda s: edge_calls(dice, s),
+        lambda s: spoilt_record_calls(dice, s),
+        lambda s: spoilt_map_calls(dice, s),
+        lambda s: wrap_calls(dice, s) + end_calls(dice, s),
+        lambda s: short_route_calls(dice, s),
+        lambda s: lend_calls(dice, s),
+    ]
+    cases = []
+    for number in range(1040):
+        s = dice.pick([random_set, tight_set])(dice, dice.pick([60, 100, 200, 200, 300, 400, 600]))
+        cases.append(fitting(dice, s, kinds[number % len(kinds)](s)))
+    for _ in range(240):
+        s = dice.pick([random_set, tight_set])(dice, dice.pick([60, 120, 240, 400]))
+        cases.append(fitting(dice, s, round_calls(dice, s, sum(lengths_of(s))), True))
+    for _ in range(50):
+        cases += short_cases(dice, random_set(dice, dice.pick([30, 100, 300])))
+    return cases
+
+
+def named_cases(dice):
+    """The known families, each with rounds that finish it, and then again."""
+    cases = []
+    for s in named_sets():
+        rounds = round_calls(dice, s, sum(lengths_of(s)))
+        cases.append(fitting(dice, s, rounds + [(AGAIN,), (ROUTE, min(MAX_ROUTE, sum(lengths_of(s))))] + random_calls(dice, s, 6)))
+    return cases
+
+
+def large_cases(dice):
+    """The large sets: few calls, and a map slice too short by one for each."""
+    cases = []
+    for s in large_sets():
+        calls = random_calls(dice, s, 6)
+        cases.append(fitting(dice, s, calls))
+        cases.append(Case(words_of(*s), grid_of(s) - 1, 8, calls))
+    return cases
+
+
+def faulty_cases(dice):
+    """The lists made for each refusal, then random sets with a few changes."""
+    cases = [refused_case(dice, words) for words in faulty_lists(dice)]
+    cases += [refused_case(dice, mutated(dice, words_of(*random_set(dice, 60)))) for _ in range(450)]
+    for _ in range(30):
+        words = words_of(*random_set(dice, 60))
+        cases.append(refused_case(dice, words[: dice.below(len(words))]))
+    return cases
+
+
+def all_cases():
+    dice = Dice(SEED)
+    return named_cases(dice) + small_cases(dice) + faulty_cases(dice) + large_cases(dice)
+
+
+def encoded(cases):
+    """The input's bytes."""
+    words = [len(cases)]
+    for case in cases:
+        assert len(case.words) <= MAX_SET and case.map_length <= MAX_MAP and case.plan_length <= MAX_PLAN and len(case.calls) <= MAX_CALLS
+        words += [len(case.words), case.map_length, case.plan_length, len(case.calls)] + case.words
+        for call in case.calls:
+            assert call[0] != ROUTE or call[1] <= MAX_ROUTE
+            assert call[0] != POKE or call[1] < case.map_length
+            assert call[0] != LEND or call[1] <= case.map_length
+            words += call
+    return b"".join(word.to_bytes(4, "little") for word in words)
+
+
+def expected(cases):
+    """The output's bytes."""
+    lines = []
+    for number, case in enumerate(cases):
+        lines += Play(number, case).lines
+    return "".join(line + "\n" for line in lines).encode("ascii")
+
+
+def main():
+    cases = all_cases()
+    made = [encoded(cases), expected(cases)]
+    if sys.argv[1:] == ["--check"]:
+        for name, data in zip(FILES, made):
+            with open(name, "rb") as file:
+                if file.read() != data:
+                    sys.exit("make_corpus: %s differs from what is made" % os.path.relpath(name))
+        print("make_corpus: %d cases, both files as made" % len(cases))
+    else:
+        for name, data in zip(FILES, made):
+            os.makedirs(os.path.dirname(name), exist_ok=True)
+            with open(name, "wb") as file:
+                file.write(data)
+        print("make_corpus: %d cases, %d and %d bytes" % (len(cases), len(made[0]), len(made[1])))
+
+
+if __name__ == "__main__":
+    main()
