@@ -20,11 +20,18 @@ def long_plan():
     return file_of(words_of(*s))
 
 
+def pairs_of(n, m):
+    """One device, and two tasks with n and m holds of it: n * m boxes of three words."""
+    return words_of(*Set([1], [[(CLAIM, 0), (RELEASE, 0)] * n, [(CLAIM, 0), (RELEASE, 0)] * m]))
+
+
 def files():
     """Each file with what must be printed for it."""
     dice = Dice(2026)
     sets = named_sets() + large_sets()[:1] + [tight_set(dice, 300) for _ in range(40)]
     lists = [words_of(*s) for s in sets] + [mutated(dice, words_of(*random_set(dice, 60))) for _ in range(40)]
+    # plans of 1,024 and 1,027 lines, next to the printer's block of output
+    lists += [pairs_of(11, 31), pairs_of(18, 19)]
     whole = [file_of(words) for words in lists]
     whole += [b"", b"\0", b"\0" * 3, b"\0" * 4, b"\0\0\0\x20", b"\1\0\0\x50\0\0\0\x20", b"\0\0\0\x20\1\0\0\x50\0"]
     whole += [file_of([0x20000000]) * 4096, b"\0" * 16383, b"\0" * 16384, b"\0" * 16385, b"\0" * 16388, b"\0" * 100000]

@@ -56,6 +56,65 @@ fn read_line(label: &[u8], words: &[u32]) {
     say(b"\n");
 }
 
+// The number of plan words, and the whole map.
+fn map_line(label: &[u8], words: &[u32], map: &mut [u8]) {
+    let mut plan = [0u32; 32];
+    say(label);
+    match analysis::analyse(words, map, &mut plan) {
+        Outcome::Planned { words: count } => {
+            say_number(b": planned ", count as u64);
+        }
+        Outcome::Refused { number, place } => {
+            say(b": ");
+            say_refusal(number, place);
+        }
+    }
+    say(b", map");
+    say_steps(map);
+    say(b"\n");
+}
+
+// Examples d and e.
+fn mapped_sets() {
+    let d = [
+        0x1000_0001u32,
+        0x1000_0001,
+        0x1000_0001,
+        0x2000_0000,
+        0x3000_0002,
+        0x3000_0000,
+        0x4000_0002,
+        0x3000_0001,
+        0x4000_0001,
+        0x4000_0000,
+        0x2000_0000,
+        0x3000_0001,
+        0x3000_0002,
+        0x4000_0002,
+        0x3000_0000,
+        0x4000_0000,
+        0x4000_0001,
+        0x5000_0011,
+    ];
+    let mut grid_of_d = [9u8; 49];
+    map_line(b"d", &d, &mut grid_of_d);
+    let e = [
+        0x1000_0002u32,
+        0x2000_0000,
+        0x3000_0000,
+        0x4000_0000,
+        0x2000_0000,
+        0x3000_0000,
+        0x4000_0000,
+        0x2000_0000,
+        0x3000_0000,
+        0x4000_0000,
+        0x5000_000A,
+    ];
+    let mut grid_of_e = [9u8; 27];
+    map_line(b"e", &e, &mut grid_of_e);
+}
+
 // Examples f to k.
 fn small_sets() {
     let mut map = [0u8; 1];
@@ -333,6 +392,7 @@ fn main() {
     routes(&words, &map);
     spoilt_records(&words, &map);
     spoilt_maps(&words);
+    mapped_sets();
     small_sets();
     two_long();
     three_long();
