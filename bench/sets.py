@@ -44,3 +44,6 @@ save("great_box", [1] * 4, [
     [claim(0)] + pairs(125, [claim(2), release(2)]) + [claim(1), release(1), release(0)],
     [claim(1)] + pairs(125, [claim(3), release(3)]) + [claim(0), release(0), release(1)],
 ])
+# As many words as a list can have before its grid is looked at: 16 devices and eight tasks of 254 actions, 2,057 words, refused with 12. It is read and no more,
+# which is nearly all that a bid costs.
+save("longest", [1] * 16, [pairs(127, [claim(d), release(d)]) for d in range(8)])

@@ -4,3 +4,4 @@ pub mod LastTask
 pub mod Steps
 pub mod Kept
 pub mod Facts
+pub mod Going

@@ -3,15 +3,16 @@ use Prim.Native.Nat.{ℕ, _+_, _≤_}
 use mathlib.Core.Path.{_≡_}
 use mathlib.Core.Bool.{Bool, false, cond}
 use mathlib.Core.List.{List}
-use lib.ListN.{length}
+use lib.ListN.{length, drop}
 use lib.Dec.{ltb}
 use Rattle.model.specs.Test.{tabulate}
 use Rattle.model.specs.Layout.{taskWords}
-use Rattle.model.specs.Read.{fault, note, holdsNow}
+use Rattle.model.specs.Read.{fault, note, holdsNow, readFrom}
 use Rattle.model.specs.Read as model
 use Rattle.reader.specs.declared.Shape.{Shape}
 use Rattle.reader.specs.declared.Scan.{Scan}
 use Rattle.reader.specs.declared.Step.{Step}
+use Rattle.reader.specs.declared.Run.{Run}
 use Rattle.reader.specs.declared.Reading.{Reading}
 use Rattle.reader.specs.Answer.{shapeOf, answer}
 
@@ -50,3 +51,18 @@ Closes s n r = (m : model.Scan) → length (m .set .tasks) ≤ 8 → s ≡ scanO
 pub record Bounded (s : Scan) : Type 0 where
   pub devices : s .shape .devices ≤ 16
   pub tasks : s .shape .tasks ≤ 8
+
+-- i words led to s without a fault, and reading the others from there gives the answer
+pub record Reached (ws : List ℕ) (s : Scan) (i : ℕ) : Type 0 where
+  pub scan : model.Scan
+  pub sound : Sound scan i
+  pub same : s ≡ scanOf scan
+  pub rest : model.read ws ≡ readFrom scan i (drop i ws)
+  pub within : i ≤ length ws
+
+-- the scan of this shape inside a task, and the run that ends with it before index i
+abbrev pub inTask : Shape → List Bool → Scan
+inTask shape held = record { shape = shape; held = held; ended = false }
+
+abbrev pub stops : Shape → List Bool → ℕ → Run
+stops shape held i = record { index = i; scan = inTask shape held }

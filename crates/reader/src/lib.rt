@@ -1,7 +1,7 @@
 // Reads a set of devices and tasks from its words, or refuses it at the first faulty word.
 ghost use mathlib.Core.Path.{_≡_};
 ghost use mathlib.Core.Bool.{false, cond};
-ghost use Prim.Native.Nat.{_<_, min};
+ghost use Prim.Native.Nat.{_<_, _≤_, min};
 ghost use lib.ListN.{getD};
 ghost use Rattle.model.specs.Test.{any};
 ghost use Rattle.model.specs.Set.{size};
@@ -9,7 +9,7 @@ ghost use Rattle.model.specs.Layout.{kindOf, fieldOf, DEVICE, TASK, CLAIM, RELE
 ghost use Rattle.model.specs.Read.{faulty, nothingRead};
 ghost use Rattle.model.specs.Read as model;
 ghost use Rattle.reader.specs.Answer.{answer, shapeOf};
-ghost use Rattle.reader.specs.Follow.{scanOf, advanced, Bounded, FollowsAt, Follows, Closes};
+ghost use Rattle.reader.specs.Follow.{scanOf, advanced, Bounded, FollowsAt, Follows, Closes, Reached, stops};
 use model::CLAIM;
 use model::CLAIM_OF_HELD;
 use model::DEVICE;
@@ -74,6 +74,12 @@ struct Scan {
 struct Step {
     fault: u8,
     next: Scan,
+}
+
+// Actions read in a row: the scan after them, and the index of the next word.
+struct Run {
+    index: usize,
+    scan: Scan,
 }
 
 // The shape of a set with no device and no task.
@@ -309,6 +315,58 @@ fn read_word(s: Scan, i: usize, word: u32) -> Step
     }
 }
 
+// The run that ends before index i, in an open task.
+fn stopped(shape: Shape, held: [bool; MAX_DEVICES], i: usize) -> Run
+    ensures { λ r. ⌜ r ≡ stops shape held i ⌝ }
+{
+    let scan = Scan {
+        shape: shape,
+        held: held,
+        ended: false,
+    };
+    Run {
+        index: i,
+        scan: scan,
+    }
+}
+
+// Reads on from an index, up to a word that is no action or has a fault: that one is left to read_word. Nearly all words are actions, and here none
+// copies the scan.
+fn read_actions(words: &[u32], from: usize, s: Scan) -> Run
+    requires { ⌜ Reached (now words) s from ⌝ }
+    ensures { λ r. ⌜ Reached (now (words .entry)) (r .scan) (r .index) × (from ≤ r .index) ⌝ }
+{
+    let n = words.len();
+    let mut shape = s.shape;
+    let mut held = s.held;
+    if s.ended || shape.tasks < 1 {
+        return Run {
+            index: from,
+            scan: s,
+        };
+    }
+    let t = shape.tasks - 1;
+    let devices = shape.devices;
+    let mut i = from;
+    while i < n {
+        let word = words[i];
+        let kind = word / FIELDS;
+        let d = (word % FIELDS) as usize;
+        let count = shape.actions[t];
+        let claim = kind == CLAIM;
+        if kind < CLAIM || RELEASE < kind || devices <= d {
+            return stopped(shape, held, i);
+        }
+        if MAX_ACTIONS <= count || held[d] == claim {
+            return stopped(shape, held, i);
+        }
+        shape.actions[t] = count + 1;
+        held[d] = claim;
+        i += 1;
+    }
+    stopped(shape, held, i)
+}
+
 // A refusal at a place.
 fn refuse(number: u8, place: usize) -> Reading
     ensures { λ r. ⌜ r ≡ answer (faulty number place) ⌝ }
@@ -364,8 +422,9 @@ pub fn read(words: &[u32]) -> Reading
         if NO_FAULT < fault {
             return refuse(fault, i);
         }
-        s = t.next;
-        i += 1;
+        let run = read_actions(words, i + 1, t.next);
+        s = run.scan;
+        i = run.index;
     }
     close(s, n)
 }

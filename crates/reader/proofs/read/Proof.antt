@@ -1,35 +1,27 @@
--- `reader::read` meets its contract. The invariant: the scan follows one of the model's, and reading the words from i on from that one gives the answer.
+-- `reader::read` meets its contract. The invariant: the words up to i led to the scan.
 -- Assumes nothing.
 use borrow.Author.Needs.{needs}
 use borrow.Author.Tests.{lt-ltb, le-ltb, eq-eqb, ne-eqb}
 use Prim.Native.Nat.{ℕ, _+_, _-_, _≤_, _<_}
 use mathlib.Core.Path.{_≡_, sym, ap, _∙_}
 use mathlib.Core.List.{List}
-use native.Mathlib.Nat.{le-antisymm}
-use native.Mathlib.Numerals.{add-one}
 use native.Mathlib.Omega.{arith}
-use lib.ListN.{length, getD, drop, drop-of-length-le}
+use lib.ListN.{length, getD}
 use lib.Seq.{drop-cons}
 use Rattle.model.specs.Layout.{kindOf, fieldOf}
-use Rattle.model.specs.Read.{nothingRead, note, fault, readFrom}
+use Rattle.model.specs.Read.{nothingRead, fault, readFrom}
 use Rattle.model.specs.Read as model
 use Rattle.reader.specs.declared.Scan.{Scan}
 use Rattle.reader.specs.declared.Step.{Step}
 use Rattle.reader.specs.Answer.{answer}
-use Rattle.reader.specs.Follow.{scanOf, Sound, stepOf, Bounded}
-use Rattle.reader.proofs.Kept.{start-sound, kept}
+use Rattle.reader.specs.Follow.{stepOf, Reached}
+use Rattle.reader.proofs.Kept.{start-sound}
+use Rattle.reader.proofs.Going.{bounded, finished, goes-on}
 use Rattle.reader.proofs.read.Statement.{statement}
 use Rattle.reader.proofs.read.Tie as tie
 
--- i words led to s without a fault
-record Reached (ws : List ℕ) (s : Scan) (i : ℕ) : Type 0 where
-  scan : model.Scan
-  sound : Sound scan i
-  same : s ≡ scanOf scan
-  rest : model.read ws ≡ readFrom scan i (drop i ws)
-
 abbrev Inv-loop : tie.InvT-loop
-Inv-loop words n s₀ i₀ s i = (i ≤ n) × Reached words s i
+Inv-loop words n s₀ i₀ s i = Reached words s i
 
 abbrev μ-loop : tie.MeasureT-loop
 μ-loop words n s₀ i₀ s i = n - i
@@ -38,34 +30,22 @@ started : (ws : List ℕ) → (length ws ≡ 0 → ⊥) → length ws ≤ 4096 �
 unfolding model.read
 started ws h k = rw (ne-eqb _ _ h, le-ltb _ _ k)
 
-module _ (ws : List ℕ) (s : Scan) (i : ℕ) (at : Reached ws s i) where
-  bounded : Bounded s
-  bounded = rw (at .same) (record { devices = at .sound .devices; tasks = at .sound .tasks })
+module _ (ws : List ℕ) (s : Scan) (i : ℕ) (at : Reached ws s i) (t : Step) (e : t ≡ stepOf (at .scan) i (kindOf (getD ws i 0)) (fieldOf (getD ws i 0)))
+    (h : i < length ws) where
+  -- the fault that the model finds in the word at i
+  found : t .fault ≡ fault (at .scan) i (kindOf (getD ws i 0)) (fieldOf (getD ws i 0))
+  unfolding stepOf
+  found = ap (λ (r : Step). r .fault) e
 
-  finished : i ≤ length ws → length ws ≤ i → readFrom (at .scan) i (drop i ws) ≡ model.close (at .scan) (length ws)
+  faulty : 0 < t .fault → model.read ws ≡ model.faulty (t .fault) i
   unfolding readFrom
-  finished k h = rw (drop-of-length-le ws h) (ap (model.close (at .scan)) (le-antisymm k h))
+  faulty z = at .rest ∙ rw (drop-cons ws i 0, ← found, lt-ltb 0 (t .fault) z)
 
-  module _ (t : Step) (e : t ≡ stepOf (at .scan) i (kindOf (getD ws i 0)) (fieldOf (getD ws i 0))) (h : i < length ws) where
-    -- the fault that the model finds in the word at i
-    found : t .fault ≡ fault (at .scan) i (kindOf (getD ws i 0)) (fieldOf (getD ws i 0))
-    unfolding stepOf
-    found = ap (λ (r : Step). r .fault) e
-
-    faulty : 0 < t .fault → model.read ws ≡ model.faulty (t .fault) i
-    unfolding readFrom
-    faulty z = at .rest ∙ rw (drop-cons ws i 0, ← found, lt-ltb 0 (t .fault) z)
-
-    goes-on : t .fault ≤ 0 → Reached ws (t .next) (i + 1)
-    unfolding readFrom stepOf
-    goes-on z =
-        let none : fault (at .scan) i (kindOf (getD ws i 0)) (fieldOf (getD ws i 0)) ≡ 0 = omega (arith, found) in
-        record {
-          scan = note (at .scan) (kindOf (getD ws i 0)) (fieldOf (getD ws i 0));
-          sound = rw (add-one i) (kept (at .scan) i _ (at .sound) _ none);
-          same = rw none at (ap (λ (r : Step). r .next) e);
-          rest = at .rest ∙ rw (add-one i, drop-cons ws i 0, none);
-        }
+  faultless : t .fault ≤ 0 → Reached ws (t .next) (i + 1)
+  unfolding stepOf
+  faultless z =
+      let none : fault (at .scan) i (kindOf (getD ws i 0)) (fieldOf (getD ws i 0)) ≡ 0 = omega (arith, found) in
+      goes-on ws s i at (t .next) h none (rw none at (ap (λ (r : Step). r .next) e))
 
 refuse-requires : tie.Need-refuse-requires Inv-loop μ-loop
 refuse-requires c κs = search needs
@@ -85,10 +65,14 @@ new-scan-requires : tie.Need-new-scan-requires Inv-loop μ-loop
 new-scan-requires c κs = search needs
 
 loop-holds : tie.Need-loop-holds Inv-loop μ-loop
-loop-holds c = (
-  search needs,
-  record { scan = nothingRead; sound = start-sound; same = c .new-scan .ensures; rest = started _ (c .before .before .if1 .left) (c .before .if2 .left) },
-)
+loop-holds c =
+    record {
+      scan = nothingRead;
+      sound = start-sound;
+      same = c .new-scan .ensures;
+      rest = started _ (c .before .before .if1 .left) (c .before .if2 .left);
+      within = search needs;
+    }
 
 mul-read-word : tie.Need-mul-read-word Inv-loop μ-loop
 mul-read-word c = search needs
@@ -97,7 +81,7 @@ shared-slice-read-read-word : tie.Need-shared-slice-read-read-word Inv-loop μ-l
 shared-slice-read-read-word c = search needs
 
 read-word-requires : tie.Need-read-word-requires Inv-loop μ-loop
-read-word-requires c κs = (bounded _ _ _ (c .before .before .loop .inv .1), search needs)
+read-word-requires c κs = (bounded _ _ _ (c .before .before .loop .inv), search needs)
 
 refuse-requires-3 : tie.Need-refuse-requires-3 Inv-loop μ-loop
 refuse-requires-3 c κs = search needs
@@ -105,30 +89,33 @@ refuse-requires-3 c κs = search needs
 returns-3 : tie.Need-returns-3 Inv-loop μ-loop
 returns-3 c =
     let b = c .before .before in
-    let at = b .before .before .before .loop .inv .1 in
+    let at = b .before .before .before .loop .inv in
     let step = b .read-word .ensures (at .scan) (at .sound) (at .same) in
     c .refuse3 .ensures ∙ sym (ap answer (faulty _ _ _ at (b .read-word .result) step (omega arith) (c .before .if3 .taken)))
 
-add-i : tie.Need-add-i Inv-loop μ-loop
-add-i c = search needs
+add-read-actions : tie.Need-add-read-actions Inv-loop μ-loop
+add-read-actions c = search needs
+
+read-actions-requires : tie.Need-read-actions-requires Inv-loop μ-loop
+read-actions-requires c κs =
+    let b = c .before in
+    let at = b .before .before .before .loop .inv in
+    let step = b .read-word .ensures (at .scan) (at .sound) (at .same) in
+    faultless _ _ _ at (b .read-word .result) step (omega arith) (c .if3 .left)
 
 loop-less : tie.Need-loop-less Inv-loop μ-loop
 loop-less c = search needs
 
 loop-again : tie.Need-loop-again Inv-loop μ-loop
-loop-again c =
-    let b = c .before .before in
-    let at = b .before .before .before .loop .inv .1 in
-    let step = b .read-word .ensures (at .scan) (at .sound) (at .same) in
-    (search needs, goes-on _ _ _ at (b .read-word .result) step (omega arith) (c .before .if3 .left))
+loop-again c = c .before .read-actions .ensures .0
 
 close-requires : tie.Need-close-requires Inv-loop μ-loop
 close-requires c κs = search needs
 
 returns-4 : tie.Need-returns-4 Inv-loop μ-loop
 returns-4 c =
-    let at = c .before .before .loop .inv .1 in
-    c .close .ensures (at .scan) (at .sound .tasks) (at .same) ∙ sym (ap answer (at .rest ∙ finished _ _ _ at (omega arith) (omega arith)))
+    let at = c .before .before .loop .inv in
+    c .close .ensures (at .scan) (at .sound .tasks) (at .same) ∙ sym (ap answer (at .rest ∙ finished _ _ _ at (omega arith)))
 
 pub read-spec : {M : Type 1} → statement M
 read-spec =
@@ -147,7 +134,8 @@ read-spec =
     read-word-requires
     refuse-requires-3
     returns-3
-    add-i
+    add-read-actions
+    read-actions-requires
     loop-less
     loop-again
     close-requires
