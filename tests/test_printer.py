@@ -25,6 +25,20 @@ def pairs_of(n, m):
     return words_of(*Set([1], [[(CLAIM, 0), (RELEASE, 0)] * n, [(CLAIM, 0), (RELEASE, 0)] * m]))
 
 
+def damaged(dice):
+    """A set's file cut at every length, bytes of every length, and sets with bytes replaced and the rest cut off."""
+    good = file_of(words_of(*random_set(dice, 60)))
+    for length in range(len(good)):
+        yield good[:length]
+    for length in range(200):
+        yield bytes(dice.pick([0, 1, 2, 0x10, 0x20, 0x30, 0x40, 0x50, 0xFF]) for _ in range(length))
+    for _ in range(200):
+        bad = bytearray(good)
+        for _ in range(dice.between(1, 3)):
+            bad[dice.below(len(bad))] = dice.below(256)
+        yield bytes(bad[: dice.between(1, len(bad))])
+
+
 def files():
     """Each file with what must be printed for it."""
     dice = Dice(2026)
@@ -35,6 +49,7 @@ def files():
     whole = [file_of(words) for words in lists]
     whole += [b"", b"\0", b"\0" * 3, b"\0" * 4, b"\0\0\0\x20", b"\1\0\0\x50\0\0\0\x20", b"\0\0\0\x20\1\0\0\x50\0"]
     whole += [file_of([0x20000000]) * 4096, b"\0" * 16383, b"\0" * 16384, b"\0" * 16385, b"\0" * 16388, b"\0" * 100000]
+    whole += damaged(dice)
     pairs = [(data, brute.printed(data)) for data in whole]
     return pairs + [(long_plan(), "refused 14 at 16384\n")]
 
