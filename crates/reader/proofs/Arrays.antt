@@ -27,6 +27,12 @@ padded-zero zero l = refl
 padded-zero (suc n) [] = refl
 padded-zero (suc n) (a ∷ l) = ap {B = List ℕ} (λ m. a ∷ m) (padded-zero n l)
 
+pub padded-past : (n : ℕ) (l : List ℕ) → getD (padded n l) (length l) 0 ≡ 0
+unfolding tabulate
+padded-past zero l = refl
+padded-past (suc n) [] = refl
+padded-past (suc n) (a ∷ l) = padded-past n l
+
 pub size-padded : (n : ℕ) (l : List ℕ) → length l ≤ n → size (padded n l) ≡ size l
 unfolding tabulate size
 size-padded zero [] h = refl

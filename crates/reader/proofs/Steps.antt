@@ -5,7 +5,7 @@ use mathlib.Core.List.{List, [], _∷_}
 use mathlib.Core.Bool.{Bool, true, false, not, cond, Bool·beq}
 use native.Mathlib.Nat.{not-suc-le-zero}
 use native.Mathlib.Omega.{arith}
-use borrow.Author.Tests.{lt-ltb, eq-eqb, ne-eqb}
+use borrow.Author.Tests.{lt-ltb, le-ltb, le-leb, lt-leb, eq-eqb, ne-eqb}
 use lib.ListN.{length, getD, set, length-append}
 use lib.Dec.{eqb, ltb, leb}
 use Rattle.model.specs.Test.{any, tabulate}
@@ -14,8 +14,8 @@ use Rattle.model.specs.Read.{lastTask, addAction, heldAfter, note, holdsNow, ou
 use Rattle.model.specs.Read as model
 use Rattle.model.proofs.Lists.{getD-tabulate}
 use Rattle.model.proofs.Held.{count-add, last-added}
-use Rattle.reader.specs.declared.Scan.{Scan}
-use Rattle.reader.specs.declared.Step.{Step}
+use Rattle.reader.specs.declared.scan.Scan.{Scan}
+use Rattle.reader.specs.declared.scan.Step.{Step}
 use Rattle.reader.specs.Answer.{padded, startsFrom}
 use Rattle.reader.specs.Follow.{scanOf, Sound, stepOf}
 use Rattle.reader.proofs.Arrays.{padded-add, same-entries, changed-entry, any-entry, none-passes}
@@ -54,6 +54,11 @@ module _ (m : model.Scan) where
   unfolding note startsFrom
   added f h = rw (no-task ts h, padded-add 16 cs f, length-append cs (f ∷ []))
 
+  -- and nothing is wrong with it within the limits
+  pub device-free : (i f : ℕ) → m .ended ≡ false → length ts ≤ 0 → 1 ≤ f → f ≤ 8 → length cs < 16 → fault m i 1 f ≡ 0
+  unfolding fault outOfOrder fieldAllowed tooMany
+  device-free i f running none low high room = rw (running, le-ltb 0 (length ts) none, le-leb 1 f low, le-leb f 8 high, lt-leb 16 (length cs) room)
+
   module _ (i : ℕ) (ok : Sound m i) where
     -- what the array of held devices tells
     pub some-held : any 16 (λ d. getD (tabulate 16 (holdsNow m)) d false) ≡ any (length cs) (holdsNow m)
@@ -87,6 +92,11 @@ module _ (m : model.Scan) where
           last-added ts [],
           same-entries 16 (holdsNow m) (λ d. false) (none-passes (holdsNow m) (length cs) (ok .declared) none),
         )
+
+    -- and nothing is wrong with it within the limits
+    pub task-free : (f : ℕ) → m .ended ≡ false → f ≡ 0 → length ts < 8 → any (length cs) (holdsNow m) ≡ false → fault m i 2 f ≡ 0
+    unfolding fault outOfOrder fieldAllowed tooMany
+    task-free f running zero room none = rw (running, eq-eqb f 0 zero, lt-leb 8 (length ts) room, none)
 
   -- CLAIM (b) or RELEASE of device f
   module _ (f : ℕ) (h : 1 ≤ length ts) where

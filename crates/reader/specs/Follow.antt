@@ -1,18 +1,19 @@
 -- How the code's scan follows the model's word by word: for the contracts of the reader's own functions.
-use Prim.Native.Nat.{ℕ, _+_, _≤_}
+use Prim.Native.Nat.{ℕ, _+_, _-_, _≤_}
 use mathlib.Core.Path.{_≡_}
 use mathlib.Core.Bool.{Bool, false, cond}
 use mathlib.Core.List.{List}
-use lib.ListN.{length, drop}
+use lib.ListN.{length, set, drop}
 use lib.Dec.{ltb}
 use Rattle.model.specs.Test.{tabulate}
+use Rattle.model.specs.Set.{at}
 use Rattle.model.specs.Layout.{taskWords}
 use Rattle.model.specs.Read.{fault, note, holdsNow, readFrom}
 use Rattle.model.specs.Read as model
 use Rattle.reader.specs.declared.Shape.{Shape}
-use Rattle.reader.specs.declared.Scan.{Scan}
-use Rattle.reader.specs.declared.Step.{Step}
-use Rattle.reader.specs.declared.Run.{Run}
+use Rattle.reader.specs.declared.scan.Scan.{Scan}
+use Rattle.reader.specs.declared.scan.Step.{Step}
+use Rattle.reader.specs.declared.run.Run.{Run}
 use Rattle.reader.specs.declared.Reading.{Reading}
 use Rattle.reader.specs.Answer.{shapeOf, answer}
 
@@ -60,9 +61,27 @@ pub record Reached (ws : List ℕ) (s : Scan) (i : ℕ) : Type 0 where
   pub rest : model.read ws ≡ readFrom scan i (drop i ws)
   pub within : i ≤ length ws
 
--- the scan of this shape inside a task, and the run that ends with it before index i
-abbrev pub inTask : Shape → List Bool → Scan
-inTask shape held = record { shape = shape; held = held; ended = false }
+-- the scan of this shape while END has not come, and the run that ends with it before index i
+abbrev pub beforeEnd : Shape → List Bool → Scan
+beforeEnd shape held = record { shape = shape; held = held; ended = false }
 
 abbrev pub stops : Shape → List Bool → ℕ → Run
-stops shape held i = record { index = i; scan = inTask shape held }
+stops shape held i = record { index = i; scan = beforeEnd shape held }
+
+-- the shape whose last task has c actions
+abbrev pub counted : Shape → ℕ → Shape
+counted shape c =
+    record {
+      devices = shape .devices;
+      capacities = shape .capacities;
+      tasks = shape .tasks;
+      actions = set (shape .actions) (shape .tasks - 1) c;
+      starts = shape .starts;
+    }
+
+-- i words led to the opening of the last task of this shape, which has so many devices
+pub record Opened (ws : List ℕ) (shape : Shape) (held : List Bool) (devices i : ℕ) : Type 0 where
+  pub reached : Reached ws (beforeEnd shape held) i
+  pub some : 1 ≤ shape .tasks
+  pub named : devices ≡ shape .devices
+  pub none : at (shape .actions) (shape .tasks - 1) ≡ 0

@@ -11,8 +11,8 @@ use lib.Seq.{drop-cons}
 use Rattle.model.specs.Layout.{kindOf, fieldOf}
 use Rattle.model.specs.Read.{nothingRead, fault, readFrom}
 use Rattle.model.specs.Read as model
-use Rattle.reader.specs.declared.Scan.{Scan}
-use Rattle.reader.specs.declared.Step.{Step}
+use Rattle.reader.specs.declared.scan.Scan.{Scan}
+use Rattle.reader.specs.declared.scan.Step.{Step}
 use Rattle.reader.specs.Answer.{answer}
 use Rattle.reader.specs.Follow.{stepOf, Reached}
 use Rattle.reader.proofs.Kept.{start-sound}
@@ -64,15 +64,24 @@ returns-2 c = c .refuse2 .ensures ∙ rw (ne-eqb _ _ (c .before .before .if1 .le
 new-scan-requires : tie.Need-new-scan-requires Inv-loop μ-loop
 new-scan-requires c κs = search needs
 
+read-devices-requires : tie.Need-read-devices-requires Inv-loop μ-loop
+read-devices-requires c κs = (
+  record {
+    scan = nothingRead;
+    sound = start-sound;
+    same = c .new-scan .ensures;
+    rest = started _ (c .before .before .if1 .left) (c .before .if2 .left);
+    within = search needs;
+  },
+  rw (c .new-scan .ensures),
+  rw (c .new-scan .ensures),
+)
+
+read-tasks-requires : tie.Need-read-tasks-requires Inv-loop μ-loop
+read-tasks-requires c κs = c .read-devices .ensures
+
 loop-holds : tie.Need-loop-holds Inv-loop μ-loop
-loop-holds c =
-    record {
-      scan = nothingRead;
-      sound = start-sound;
-      same = c .new-scan .ensures;
-      rest = started _ (c .before .before .if1 .left) (c .before .if2 .left);
-      within = search needs;
-    }
+loop-holds c = c .before .read-tasks .ensures
 
 mul-read-word : tie.Need-mul-read-word Inv-loop μ-loop
 mul-read-word c = search needs
@@ -93,21 +102,19 @@ returns-3 c =
     let step = b .read-word .ensures (at .scan) (at .sound) (at .same) in
     c .refuse3 .ensures ∙ sym (ap answer (faulty _ _ _ at (b .read-word .result) step (omega arith) (c .before .if3 .taken)))
 
-add-read-actions : tie.Need-add-read-actions Inv-loop μ-loop
-add-read-actions c = search needs
-
-read-actions-requires : tie.Need-read-actions-requires Inv-loop μ-loop
-read-actions-requires c κs =
-    let b = c .before in
-    let at = b .before .before .before .loop .inv in
-    let step = b .read-word .ensures (at .scan) (at .sound) (at .same) in
-    faultless _ _ _ at (b .read-word .result) step (omega arith) (c .if3 .left)
+add-i : tie.Need-add-i Inv-loop μ-loop
+add-i c = search needs
 
 loop-less : tie.Need-loop-less Inv-loop μ-loop
 loop-less c = search needs
 
 loop-again : tie.Need-loop-again Inv-loop μ-loop
-loop-again c = c .before .read-actions .ensures .0
+loop-again c =
+    let e = c .before in
+    let b = e .before in
+    let at = b .before .before .before .loop .inv in
+    let step = b .read-word .ensures (at .scan) (at .sound) (at .same) in
+    faultless _ _ _ at (b .read-word .result) step (omega arith) (e .if3 .left)
 
 close-requires : tie.Need-close-requires Inv-loop μ-loop
 close-requires c κs = search needs
@@ -128,14 +135,15 @@ read-spec =
     refuse-requires-2
     returns-2
     new-scan-requires
+    read-devices-requires
+    read-tasks-requires
     loop-holds
     mul-read-word
     shared-slice-read-read-word
     read-word-requires
     refuse-requires-3
     returns-3
-    add-read-actions
-    read-actions-requires
+    add-i
     loop-less
     loop-again
     close-requires

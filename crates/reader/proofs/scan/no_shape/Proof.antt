@@ -1,9 +1,9 @@
--- `reader::no_shape` meets its contract: the shape of the empty set is all zeros. Assumes nothing.
+-- `reader::scan::no_shape` meets its contract: the shape of the empty set is all zeros. Assumes nothing.
 use mathlib.Core.Path.{refl}
 use Rattle.model.specs.Test.{tabulate}
 use Rattle.reader.specs.Answer.{startsFrom}
-use Rattle.reader.proofs.no_shape.Statement.{statement}
-use Rattle.reader.proofs.no_shape.Tie as tie
+use Rattle.reader.proofs.scan.no_shape.Statement.{statement}
+use Rattle.reader.proofs.scan.no_shape.Tie as tie
 
 returns : tie.Need-returns
 unfolding tabulate startsFrom

@@ -1,14 +1,13 @@
--- `reader::read_device` meets its contract: the tests on the way to each return pick the case of the model's fault. Assumes nothing.
+-- `reader::word::read_device` meets its contract: the tests on the way to each return pick the case of the model's fault. Assumes nothing.
 use borrow.Author.Needs.{needs}
 use borrow.Author.Tests.{lt-ltb, le-ltb, le-leb, lt-leb}
-use mathlib.Core.Path.{ap, _∙_}
+use mathlib.Core.Path.{_∙_}
 use lib.ListN.{length}
-use Rattle.model.specs.Read.{note, outOfOrder, fieldAllowed, tooMany, fault}
-use Rattle.reader.specs.declared.Step.{Step}
+use Rattle.model.specs.Read.{outOfOrder, fieldAllowed, tooMany, fault}
 use Rattle.reader.specs.Follow.{stepOf}
-use Rattle.reader.proofs.Steps.{added}
-use Rattle.reader.proofs.read_device.Statement.{statement}
-use Rattle.reader.proofs.read_device.Tie as tie
+use Rattle.reader.proofs.Steps.{added, device-free, advances}
+use Rattle.reader.proofs.word.read_device.Statement.{statement}
+use Rattle.reader.proofs.word.read_device.Tie as tie
 
 returns : tie.Need-returns
 unfolding stepOf fault outOfOrder
@@ -60,20 +59,15 @@ advance-requires : tie.Need-advance-requires
 advance-requires c κs = search needs
 
 returns-5 : tie.Need-returns-5
-unfolding stepOf note fault outOfOrder fieldAllowed tooMany
 returns-5 c i m ok e =
     let j = c .before in
     let k = j .before .before .before in
+    let none = rw e at (k .if1 .left) in
     c .advance .ensures
-    ∙ rw (
-      e,
-      rw e at (k .before .before .before .pre .1),
-      le-ltb 0 (length (m .set .tasks)) (rw e at (k .if1 .left)),
-      le-leb 1 _ (j .before .before .if2 .left),
-      le-leb _ 8 (j .before .if3 .left),
-      lt-leb 16 (length (m .set .capacities)) (rw e at (j .if4 .left)),
-    )
-    (ap {B = Step} (λ t. record { fault = 0; next = t }) (added m _ (rw e at (k .if1 .left))))
+    ∙ rw e
+    (advances m i 1 _ _
+    (device-free m i _ (rw e at (k .before .before .before .pre .1)) none (j .before .before .if2 .left) (j .before .if3 .left) (rw e at (j .if4 .left)))
+    (added m _ none))
 
 pub read-device-spec : {M : Type 1} → statement M
 read-device-spec =

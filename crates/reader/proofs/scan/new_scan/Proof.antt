@@ -1,9 +1,9 @@
--- `reader::new_scan` meets its contract. Assumes nothing.
+-- `reader::scan::new_scan` meets its contract. Assumes nothing.
 use borrow.Author.Needs.{needs}
 use Rattle.model.specs.Test.{tabulate}
 use Rattle.model.specs.Read.{lastTask, heldAfter}
-use Rattle.reader.proofs.new_scan.Statement.{statement}
-use Rattle.reader.proofs.new_scan.Tie as tie
+use Rattle.reader.proofs.scan.new_scan.Statement.{statement}
+use Rattle.reader.proofs.scan.new_scan.Tie as tie
 
 no-shape-requires : tie.Need-no-shape-requires
 no-shape-requires c κs = search needs

@@ -1,4 +1,4 @@
--- `reader::read_action` meets its contract: the tests on the way to each return pick the case of the model's fault. Assumes nothing.
+-- `reader::word::read_action` meets its contract: the tests on the way to each return pick the case of the model's fault. Assumes nothing.
 use borrow.Author.Needs.{needs}
 use borrow.Author.Tests.{lt-ltb, le-ltb, le-leb, lt-leb}
 use mathlib.Core.Path.{_∙_}
@@ -8,8 +8,8 @@ use Rattle.model.specs.Read.{lastTask}
 use Rattle.reader.specs.Follow.{stepOf}
 use Rattle.reader.proofs.LastTask.{count-last}
 use Rattle.reader.proofs.Steps.{held-at, acted, action-fault, number-positive, refuses, advances, some-task, none-yet}
-use Rattle.reader.proofs.read_action.Statement.{statement}
-use Rattle.reader.proofs.read_action.Tie as tie
+use Rattle.reader.proofs.word.read_action.Statement.{statement}
+use Rattle.reader.proofs.word.read_action.Tie as tie
 
 returns : tie.Need-returns
 unfolding stepOf

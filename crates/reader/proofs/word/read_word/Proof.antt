@@ -1,4 +1,4 @@
--- `reader::read_word` meets its contract: the kind picks the function that follows the model. Assumes nothing.
+-- `reader::word::read_word` meets its contract: the kind picks the function that follows the model. Assumes nothing.
 use borrow.Author.Needs.{needs}
 use borrow.Author.Tests.{lt-leb, leb-true}
 use Prim.Native.Nat.{ℕ}
@@ -9,8 +9,8 @@ use lib.Dec.{leb}
 use Rattle.model.specs.Read.{fault}
 use Rattle.model.proofs.Tests.{by-test}
 use Rattle.reader.specs.Follow.{stepOf}
-use Rattle.reader.proofs.read_word.Statement.{statement}
-use Rattle.reader.proofs.read_word.Tie as tie
+use Rattle.reader.proofs.word.read_word.Statement.{statement}
+use Rattle.reader.proofs.word.read_word.Tie as tie
 
 -- a kind that is none of the five
 unknown : (k : ℕ) → (k ≡ 1 → ⊥) → (k ≡ 2 → ⊥) → (k ≡ 3 → ⊥) → (k ≡ 4 → ⊥) → (k ≡ 5 → ⊥) → (leb 1 k && leb k 5) ≡ false

@@ -1,15 +1,14 @@
--- `reader::read_task` meets its contract: the tests on the way to each return pick the case of the model's fault. Assumes nothing.
+-- `reader::word::read_task` meets its contract: the tests on the way to each return pick the case of the model's fault. Assumes nothing.
 use borrow.Author.Needs.{needs}
 use borrow.Author.Tests.{ne-eqb, eq-eqb, le-leb, lt-leb}
-use mathlib.Core.Path.{ap, sym, _∙_}
+use mathlib.Core.Path.{sym, _∙_}
 use native.Mathlib.Omega.{arith}
 use lib.ListN.{length}
-use Rattle.model.specs.Read.{note, outOfOrder, fieldAllowed, tooMany, fault}
-use Rattle.reader.specs.declared.Step.{Step}
+use Rattle.model.specs.Read.{outOfOrder, fieldAllowed, tooMany, fault}
 use Rattle.reader.specs.Follow.{stepOf}
-use Rattle.reader.proofs.Steps.{some-held, opened}
-use Rattle.reader.proofs.read_task.Statement.{statement}
-use Rattle.reader.proofs.read_task.Tie as tie
+use Rattle.reader.proofs.Steps.{some-held, opened, task-free, advances}
+use Rattle.reader.proofs.word.read_task.Statement.{statement}
+use Rattle.reader.proofs.word.read_task.Tie as tie
 
 returns : tie.Need-returns
 unfolding stepOf fault outOfOrder fieldAllowed
@@ -55,22 +54,16 @@ advance-requires : tie.Need-advance-requires
 advance-requires c κs = search needs
 
 returns-4 : tie.Need-returns-4
-unfolding stepOf note fault outOfOrder fieldAllowed tooMany
 returns-4 c m ok e =
     let j = c .before in
     let k = j .before .before .before .before .before .before in
     let running = rw e at (k .pre .1) in
-    let told = rw e at (j .before .holding .ensures) in
-    let none = sym (some-held m (k .args .i) ok) ∙ sym told ∙ j .if3 .left in
+    let none = sym (some-held m (k .args .i) ok) ∙ sym (rw e at (j .before .holding .ensures)) ∙ j .if3 .left in
     c .advance .ensures
-    ∙ rw (
-      e,
-      running,
-      eq-eqb (k .args .field) 0 (omega (arith, j .before .before .before .if1 .left)),
-      lt-leb 8 (length (m .set .tasks)) (rw e at (j .before .before .if2 .left)),
-      none,
-    )
-    (ap {B = Step} (λ t. record { fault = 0; next = t }) (opened m (k .args .i) ok (k .args .field) running none))
+    ∙ rw e
+    (advances m (k .args .i) 2 _ _
+    (task-free m (k .args .i) ok _ running (omega (arith, j .before .before .before .if1 .left)) (rw e at (j .before .before .if2 .left)) none)
+    (opened m (k .args .i) ok (k .args .field) running none))
 
 pub read-task-spec : {M : Type 1} → statement M
 read-task-spec =

@@ -1,12 +1,12 @@
--- `reader::read_end` meets its contract: the tests on the way to each return pick the case of the model's fault. Assumes nothing.
+-- `reader::word::read_end` meets its contract: the tests on the way to each return pick the case of the model's fault. Assumes nothing.
 use borrow.Author.Needs.{needs}
 use borrow.Author.Tests.{eq-eqb, ne-eqb}
 use mathlib.Core.Path.{sym, _∙_}
 use Rattle.model.specs.Read.{note, outOfOrder, fieldAllowed, tooMany, fault}
 use Rattle.reader.specs.Follow.{stepOf}
 use Rattle.reader.proofs.Steps.{some-held, some-task, none-yet}
-use Rattle.reader.proofs.read_end.Statement.{statement}
-use Rattle.reader.proofs.read_end.Tie as tie
+use Rattle.reader.proofs.word.read_end.Statement.{statement}
+use Rattle.reader.proofs.word.read_end.Tie as tie
 
 returns : tie.Need-returns
 unfolding stepOf fault outOfOrder

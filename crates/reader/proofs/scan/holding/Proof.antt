@@ -1,4 +1,4 @@
--- `reader::holding` meets its contract. The invariant: none of the devices before i is held.
+-- `reader::scan::holding` meets its contract. The invariant: none of the devices before i is held.
 -- Assumes nothing.
 use borrow.Author.Needs.{needs}
 use Prim.Native.Nat.{ℕ, _+_, _-_, _≤_}
@@ -11,8 +11,8 @@ use native.Mathlib.Omega.{arith}
 use lib.ListN.{length, getD}
 use Rattle.model.specs.Test.{any}
 use Rattle.model.proofs.Tests.{any-intro}
-use Rattle.reader.proofs.holding.Statement.{statement}
-use Rattle.reader.proofs.holding.Tie as tie
+use Rattle.reader.proofs.scan.holding.Statement.{statement}
+use Rattle.reader.proofs.scan.holding.Tie as tie
 
 abbrev holds : List Bool → ℕ → Bool
 holds l d = getD l d false
