@@ -15,7 +15,7 @@ use Rattle.model.proofs.PlanFitting.{plan-of-back}
 use Rattle.model.proofs.ReadAccepts.{read-complete, encode-injective}
 use Rattle.model.proofs.ReadExact.{read-sound}
 use Rattle.demands.specs.Demand2.{PlanExact, Demand2}
-use Rattle.demands.proofs.Outcome.{accepted-made}
+use Rattle.model.proofs.Outcome.{accepted-made}
 
 -- the plan of a set is exact
 plan-exact : (s : Set) → PlanExact s (planOf s)

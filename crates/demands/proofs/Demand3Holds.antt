@@ -26,7 +26,7 @@ use Rattle.model.proofs.GrantNumber.{grant-number}
 use Rattle.model.proofs.BrokerRecord.{calls-grid, calls-open, calls-no-forbidden-box, calls-no-unsafe-box, rounds-finish}
 use Rattle.model.proofs.ReadExact.{read-sound}
 use Rattle.demands.specs.Demand3.{OfMap, OfPlan, Demand3}
-use Rattle.demands.proofs.Outcome.{Mapped, accepted-made, short-made}
+use Rattle.model.proofs.Outcome.{Mapped, accepted-made, short-made}
 use Rattle.demands.proofs.Demand2Holds.{plan-left}
 
 -- of a permitted state's byte, which says what it is

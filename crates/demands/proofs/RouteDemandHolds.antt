@@ -31,7 +31,7 @@ use Rattle.model.proofs.ReadExact.{read-sound}
 use Rattle.model.proofs.RouteOpen.{Leads, route-leads}
 use Rattle.demands.specs.RouteDemand.{MapMade, actionsLeft, Arrives, RouteRight, RouteDemand}
 use Rattle.demands.proofs.RouteSmallest.{walk-smallest}
-use Rattle.demands.proofs.Outcome.{Mapped, accepted-made, short-made}
+use Rattle.model.proofs.Outcome.{Mapped, accepted-made, short-made}
 
 -- a record whose positions are in place gives a state of the grid
 placed-grid : (s : Set) → WellFormed s → (r : Record) → length (r .positions) ≡ 8 → misplaced s r ≡ false → InGrid (lengthsOf s) (stateIn s r)

@@ -3,3 +3,4 @@ pub mod Philosophers
 pub mod Demand2
 pub mod Demand3
 pub mod RouteDemand
+pub mod Refusals

@@ -25,3 +25,7 @@ pub each-tabulate : {A : Type 0} (P : A → Type 0) (n : ℕ) (f : ℕ → A) �
 unfolding tabulate
 each-tabulate P zero f h = tt
 each-tabulate P (suc n) f h = (h 0 (omega arith), each-tabulate P n (λ t. f (suc t)) (λ t k. h (suc t) (suc-le-suc k)))
+
+pub each-mono : {A : Type 0} (P Q : A → Type 0) → ((a : A) → P a → Q a) → (l : List A) → Each P l → Each Q l
+each-mono P Q h [] e = tt
+each-mono P Q h (a ∷ l) e = (h a (e .0), each-mono P Q h l (e .1))

@@ -23,8 +23,10 @@ pub mod RouteOpen
 pub mod Each
 pub mod PlanBack
 pub mod PlanCount
+pub mod ForbiddenSides
 pub mod PlanFitting
 pub mod ReadNumbers
+pub mod Outcome
 pub mod Held
 pub mod Parity
 pub mod Words

@@ -6,6 +6,7 @@ use mathlib.Core.Bool.{Bool, true, false, not, cond, _&&_, _||_}
 use mathlib.Core.List.{List, [], _∷_}
 use lib.ListN.{length}
 use lib.Dec.{eqb, ltb, leb}
+use borrow.Author.Tests.{ltb-true}
 use Rattle.model.specs.Set.{lengthsOf, size}
 use Rattle.model.specs.Layout.{kindOf, fieldOf, TASK, CLAIM, RELEASE, END}
 use Rattle.model.specs.Read.{Scan, nothingRead, note, holdsNow, holdsSome, outOfOrder, fieldAllowed, tooMany, fault, reads, faulty, close, readFrom, read}
@@ -30,31 +31,35 @@ fault-small s i k f =
 same-number : {n m p q : ℕ} → faulty n p ≡ faulty m q → n ≡ m
 same-number e = cc
 
-close-small : (s : Scan) (i n p : ℕ) → close s i ≡ faulty n p → n ≤ 12
+between : {n m : ℕ} → m ≡ n → 1 ≤ m → m ≤ 12 → (1 ≤ n) × (n ≤ 12)
+between e l h = (omega arith, omega arith)
+
+close-listed : (s : Scan) (i n p : ℕ) → close s i ≡ faulty n p → (1 ≤ n) × (n ≤ 12)
 unfolding close
-close-small s i n p e =
+close-listed s i n p e =
     by-test (s .ended)
     (λ d. by-test (ltb 65536 (size (lengthsOf (s .set))))
-    (λ g. omega (arith, same-number (rw (d, g) at e)))
+    (λ g. between (same-number (rw (d, g) at e)) (omega arith) (omega arith))
     (λ g. absurd (never (rw (d, g) at e))))
-    (λ d. omega (arith, same-number (rw d at e)))
+    (λ d. between (same-number (rw d at e)) (omega arith) (omega arith))
   where
     never : reads (s .set) ≡ faulty n p → ⊥
     never q = let z : _≡_ {A = ℕ} 0 1 = cc in omega arith
 
-from-small : (s : Scan) (i : ℕ) (ws : List ℕ) (n p : ℕ) → readFrom s i ws ≡ faulty n p → n ≤ 12
+from-listed : (s : Scan) (i : ℕ) (ws : List ℕ) (n p : ℕ) → readFrom s i ws ≡ faulty n p → (1 ≤ n) × (n ≤ 12)
 unfolding readFrom
-from-small s i [] n p e = close-small s i n p e
-from-small s i (w ∷ ws) n p e =
-    by-test (ltb 0 (fault s i (kindOf w) (fieldOf w)))
-    (λ b. omega (arith, same-number (rw b at e), fault-small s i (kindOf w) (fieldOf w)))
-    (λ b. from-small (note s (kindOf w) (fieldOf w)) (suc i) ws n p (rw b at e))
+from-listed s i [] n p e = close-listed s i n p e
+from-listed s i (w ∷ ws) n p e =
+    let f = fault s i (kindOf w) (fieldOf w) in
+    by-test (ltb 0 f)
+    (λ b. between (same-number (rw b at e)) (ltb-true 0 f b) (fault-small s i (kindOf w) (fieldOf w)))
+    (λ b. from-listed (note s (kindOf w) (fieldOf w)) (suc i) ws n p (rw b at e))
 
-pub read-number : (ws : List ℕ) (n p : ℕ) → read ws ≡ faulty n p → n ≤ 12
+pub read-number : (ws : List ℕ) (n p : ℕ) → read ws ≡ faulty n p → (1 ≤ n) × (n ≤ 12)
 unfolding read
 read-number ws n p e =
     by-test (eqb (length ws) 0)
-    (λ b. omega (arith, same-number (rw b at e)))
+    (λ b. between (same-number (rw b at e)) (omega arith) (omega arith))
     (λ b. by-test (ltb 4096 (length ws))
-    (λ c. omega (arith, same-number (rw (b, c) at e)))
-    (λ c. from-small nothingRead 0 ws n p (rw (b, c) at e)))
+    (λ c. between (same-number (rw (b, c) at e)) (omega arith) (omega arith))
+    (λ c. from-listed nothingRead 0 ws n p (rw (b, c) at e)))
