@@ -1,26 +1,67 @@
-// The arbiter's calls for hosts in C and Rust.
-ghost use Rattle.model.specs.Analysis.{analyse};
-ghost use Rattle.arbiter.specs.Told.{Told};
-use analysis::Outcome;
+// The arbiter's calls for hosts in C, C++ and Rust (include/arbiter.h has them for C). Each hands its library call on, and no host owes it anything but the slices
+// and the record themselves.
+mod answers;
 
-// The analysis: 0, and the number of plan words as the value; or the refusal's number, and its place as the value.
+ghost use mathlib.Core.Path.{_≡_};
+ghost use Rattle.model.specs.Read.{read};
+ghost use Rattle.model.specs.Analysis.{analyse};
+ghost use Rattle.model.specs.Broker.{fresh, bid, again};
+ghost use Rattle.model.specs.Route.{route};
+ghost use Rattle.broker.specs.Says.{recordOf};
+ghost use Rattle.arbiter.specs.Told.{toldReading, ToldAnalysis, ToldService, ToldRoute};
+use answers::Answer;
+use broker::Record;
+use reader::Verdict;
+
+// Reads a set: accepted with its grid, so that a host knows how long its map will be, or a refusal of the set.
 #[no_mangle]
-pub extern "C" fn arbiter_analyse(
-    set: &[u32],
-    map: &mut [u8],
-    plan: &mut [u32],
-    value: &mut u64,
-) -> u8
-    ensures { λ r. ⌜ Told (analyse (now (set .entry)) (now (map .entry)) (now (plan .entry))) r (now (value .exit)) (now (map .exit)) (now (plan .exit)) ⌝ }
+pub extern "C" fn arbiter_read(set: &[u32]) -> Answer
+    ensures { λ r. ⌜ r ≡ toldReading (read (now (set .entry))) ⌝ }
 {
-    match analysis::analyse(set, map, plan) {
-        Outcome::Planned { words } => {
-            *value = words as u64;
-            0
-        }
-        Outcome::Refused { number, place } => {
-            *value = place as u64;
-            number
-        }
+    let reading = reader::read(set);
+    let verdict = reading.verdict;
+    match verdict {
+        Verdict::Accepted { grid } => answers::valued(answers::ACCEPTED, grid as usize),
+        Verdict::Refused { number, place } => answers::refuse(number, place),
     }
+}
+
+// The analysis of a set into a map and a plan.
+#[no_mangle]
+pub extern "C" fn arbiter_analyse(set: &[u32], map: &mut [u8], plan: &mut [u32]) -> Answer
+    ensures { λ r. ⌜ ToldAnalysis r (now (map .exit)) (now (plan .exit)) (analyse (now (set .entry)) (now (map .entry)) (now (plan .entry))) ⌝ }
+{
+    answers::of_outcome(analysis::analyse(set, map, plan))
+}
+
+// The record that a service starts with.
+#[no_mangle]
+pub extern "C" fn arbiter_fresh() -> Record
+    ensures { λ r. ⌜ recordOf r ≡ fresh ⌝ }
+{
+    Record::fresh()
+}
+
+// A bid of a task on the host's record.
+#[no_mangle]
+pub extern "C" fn arbiter_bid(rec: &mut Record, set: &[u32], map: &[u8], task: usize) -> Answer
+    ensures { λ r. ⌜ ToldService r (recordOf (now (rec .exit))) (bid (now (set .entry)) (now (map .entry)) (recordOf (now (rec .entry))) task) ⌝ }
+{
+    answers::of_service(broker::bid_in_place(rec, set, map, task))
+}
+
+// Again on the host's record.
+#[no_mangle]
+pub extern "C" fn arbiter_again(rec: &mut Record, set: &[u32]) -> Answer
+    ensures { λ r. ⌜ ToldService r (recordOf (now (rec .exit))) (again (now (set .entry)) (recordOf (now (rec .entry)))) ⌝ }
+{
+    answers::of_service(broker::again_in_place(rec, set))
+}
+
+// The route from the state in a record.
+#[no_mangle]
+pub extern "C" fn arbiter_route(rec: Record, set: &[u32], map: &[u8], steps: &mut [u8]) -> Answer
+    ensures { λ r. ⌜ ToldRoute r (now (steps .exit)) (route (now (set .entry)) (now (map .entry)) (recordOf rec) (now (steps .entry))) ⌝ }
+{
+    answers::of_route(route::route(set, map, rec, steps))
 }

@@ -14,7 +14,8 @@ ghost use Rattle.broker.specs.Shaped.{Shaped};
 use reader::Shape;
 use reader::Verdict;
 
-// Each task's position, 0 for absent tasks, and the grant number.
+// Each task's position, 0 for absent tasks, and the grant number: twelve bytes, laid out as C does, since hosts keep it.
+#[repr(C)]
 pub struct Record {
     pub positions: [u8; model::MAX_TASKS],
     pub grants: u32,

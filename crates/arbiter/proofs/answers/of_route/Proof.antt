@@ -1,0 +1,37 @@
+-- `arbiter::answers::of_route` meets its contract, case by case.
+use borrow.Author.Needs.{needs}
+use Rattle.route.specs.Says.{answerOf}
+use Rattle.arbiter.specs.Told.{told}
+use Rattle.arbiter.proofs.answers.of_route.Statement.{statement}
+use Rattle.arbiter.proofs.answers.of_route.Tie as tie
+
+enum-known-answer : tie.Need-enum-known-answer
+enum-known-answer c = search needs
+
+valued-requires : tie.Need-valued-requires
+valued-requires c κs = search needs
+
+enum-known-answer-2 : tie.Need-enum-known-answer-2
+enum-known-answer-2 c = search needs
+
+refuse-requires : tie.Need-refuse-requires
+refuse-requires c κs = search needs
+
+returns : tie.Need-returns
+unfolding told answerOf
+returns c = rw (c .before .before .answer .given .1) (c .valued .ensures)
+
+returns-2 : tie.Need-returns-2
+unfolding answerOf
+returns-2 c = rw (c .before .before .answer2 .given .1) (c .refuse .ensures)
+
+pub of-route-spec : {M : Type 1} → statement M
+of-route-spec =
+    tie.close
+    (tie.spec
+    enum-known-answer
+    valued-requires
+    enum-known-answer-2
+    refuse-requires
+    returns
+    returns-2)

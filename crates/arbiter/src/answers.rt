@@ -1,0 +1,97 @@
+// What hosts are told: one struct of numbers for the answers of all calls.
+ghost use mathlib.Core.Path.{_≡_};
+ghost use Rattle.model.specs.Answer.{refused};
+ghost use Rattle.analysis.specs.Says as analysis-says;
+ghost use Rattle.broker.specs.Says as broker-says;
+ghost use Rattle.route.specs.Says as route-says;
+ghost use Rattle.arbiter.specs.Told.{told};
+use analysis::Outcome;
+use route::RouteAnswer;
+
+// The kinds of an answer, with what its value is. A zeroed answer is a refusal, so a host that asked nothing is granted nothing.
+pub const REFUSED: u32 = 0;
+
+pub const ACCEPTED: u32 = 1;
+
+pub const PLANNED: u32 = 2;
+
+pub const ROUTED: u32 = 3;
+
+pub const GRANTED: u32 = 4;
+
+pub const FINISHED: u32 = 5;
+
+pub const BUSY: u32 = 6;
+
+pub const HELD: u32 = 7;
+
+pub const RESTARTED: u32 = 8;
+
+// Sixteen bytes without a gap: the kind; the refusal's number, 0 without one; the value, 0 without one.
+#[repr(C)]
+pub struct Answer {
+    pub kind: u32,
+    pub refusal: u32,
+    pub value: u64,
+}
+
+fn plain(kind: u32) -> Answer
+    ensures { λ r. ⌜ r ≡ record { kind = kind; refusal = 0; value = 0 } ⌝ }
+{
+    Answer {
+        kind: kind,
+        refusal: 0,
+        value: 0,
+    }
+}
+
+pub(crate) fn valued(kind: u32, value: usize) -> Answer
+    ensures { λ r. ⌜ r ≡ record { kind = kind; refusal = 0; value = value } ⌝ }
+{
+    Answer {
+        kind: kind,
+        refusal: 0,
+        value: value as u64,
+    }
+}
+
+pub(crate) fn refuse(number: u8, place: usize) -> Answer
+    ensures { λ r. ⌜ r ≡ told (refused number place) ⌝ }
+{
+    Answer {
+        kind: REFUSED,
+        refusal: number as u32,
+        value: place as u64,
+    }
+}
+
+pub(crate) fn of_outcome(outcome: Outcome) -> Answer
+    ensures { λ r. ⌜ r ≡ told (analysis-says.answerOf outcome) ⌝ }
+{
+    match outcome {
+        Outcome::Planned { words } => valued(PLANNED, words),
+        Outcome::Refused { number, place } => refuse(number, place),
+    }
+}
+
+pub(crate) fn of_service(answer: broker::Answer) -> Answer
+    ensures { λ r. ⌜ r ≡ told (broker-says.answerOf answer) ⌝ }
+{
+    match answer {
+        broker::Answer::Granted => plain(GRANTED),
+        broker::Answer::Finished => plain(FINISHED),
+        broker::Answer::Busy { device } => valued(BUSY, device as usize),
+        broker::Answer::Held { rank } => valued(HELD, rank),
+        broker::Answer::Restarted => plain(RESTARTED),
+        broker::Answer::Refused { number, place } => refuse(number, place),
+    }
+}
+
+pub(crate) fn of_route(answer: RouteAnswer) -> Answer
+    ensures { λ r. ⌜ r ≡ told (route-says.answerOf answer) ⌝ }
+{
+    match answer {
+        RouteAnswer::Steps { count } => valued(ROUTED, count),
+        RouteAnswer::Refused { number, place } => refuse(number, place),
+    }
+}

@@ -1,0 +1,127 @@
+/* serve SETFILE: reads a set (four bytes a word, lowest first), analyses it, serves rounds of bids until every task is finished, starts
+ * anew and prints the route from the start. The same program in Rust is rust/examples/serve.rs; both print the same.
+ *
+ * Exit status: 0; 1 if a call was refused, with the refusal as the last line; 2 if the file can't be read or memory is out. */
+#include "arbiter.h"
+
+#include <stdbool.h>
+#include <stdio.h>
+#include <stdlib.h>
+
+static void stop(const char *why) {
+    fprintf(stderr, "serve: %s\n", why);
+    exit(2);
+}
+
+static void refused(uint32_t refusal, uint64_t place) {
+    printf("refused %u at %llu: %s\n", (unsigned)refusal, (unsigned long long)place, arbiter_refusal_text(refusal));
+    exit(1);
+}
+
+/* The answer's value, if the call wasn't refused. */
+static size_t value_of(arbiter_answer answer) {
+    if (answer.kind == ARBITER_REFUSED) refused(answer.refusal, answer.value);
+    return (size_t)answer.value;
+}
+
+static void *room(size_t count, size_t size) {
+    void *memory = calloc(count, size);
+    if (memory == NULL) stop("out of memory");
+    return memory;
+}
+
+/* The words in a set file; their number is the answer. Its own refusals are 2 and 15, before any of the library's. */
+static size_t words_in(const char *path, uint32_t set[ARBITER_MAX_WORDS]) {
+    static uint8_t bytes[4 * ARBITER_MAX_WORDS + 1]; /* room for one byte too many, which shows that the file is too long */
+    FILE *file = fopen(path, "rb");
+    if (file == NULL) stop("can't open the set file");
+    size_t length = fread(bytes, 1, sizeof bytes, file);
+    if (ferror(file)) stop("can't read the set file");
+    fclose(file);
+
+    if (length > 4 * ARBITER_MAX_WORDS) refused(ARBITER_TOO_MANY_WORDS, ARBITER_MAX_WORDS);
+    if (length % 4 != 0) refused(ARBITER_BYTES_NOT_WORDS, length / 4);
+    for (size_t i = 0; i < length / 4; i++) {
+        const uint8_t *word = bytes + 4 * i;
+        set[i] = (uint32_t)word[0] | (uint32_t)word[1] << 8 | (uint32_t)word[2] << 16 | (uint32_t)word[3] << 24;
+    }
+    return length / 4;
+}
+
+/* How many of these words are of this kind. */
+static size_t count(const uint32_t *words, size_t len, uint32_t kind) {
+    size_t found = 0;
+    for (size_t i = 0; i < len; i++) {
+        if (words[i] / ARBITER_FIELDS == kind) found++;
+    }
+    return found;
+}
+
+/* The plan, in a slice that is doubled while it is too short; its length is stored in *len. It starts short, so that even small sets show the
+ * doubling; 1,024 words would do for most. */
+static uint32_t *plan_of(const uint32_t *set, size_t set_len, uint8_t *map, size_t map_len, size_t *len) {
+    for (size_t size = 8;; size *= 2) {
+        uint32_t *plan = room(size, sizeof *plan);
+        arbiter_answer answer = arbiter_analyse(set, set_len, map, map_len, plan, size);
+        if (answer.refusal != ARBITER_PLAN_TOO_SHORT) {
+            *len = value_of(answer);
+            return plan;
+        }
+        free(plan);
+    }
+}
+
+/* One bid, printed; whether the task was finished already. */
+static bool finished(arbiter_record *record, const uint32_t *set, size_t set_len, const uint8_t *map, size_t map_len, size_t round, size_t task) {
+    arbiter_answer answer = arbiter_bid(record, set, set_len, map, map_len, task);
+    size_t value = value_of(answer);
+    printf("round %zu, task %zu: ", round, task);
+    switch (answer.kind) {
+    case ARBITER_GRANTED: printf("granted\n"); break;
+    case ARBITER_FINISHED: printf("finished\n"); break;
+    case ARBITER_BUSY: printf("waits for device %zu\n", value); break;
+    case ARBITER_HELD: printf("held back from unsafe state %zu\n", value); break;
+    default: stop("a bid has no such answer: another libarbiter.a was linked");
+    }
+    return answer.kind == ARBITER_FINISHED;
+}
+
+int main(int arguments, char **argument) {
+    if (arguments != 2) stop("usage: serve SETFILE");
+
+    static uint32_t set[ARBITER_MAX_WORDS];
+    size_t set_len = words_in(argument[1], set);
+    size_t map_len = value_of(arbiter_read(set, set_len));
+    size_t tasks = count(set, set_len, ARBITER_TASK);
+    printf("words: %zu, devices: %zu, tasks: %zu, states: %zu\n", set_len, count(set, set_len, ARBITER_DEVICE), tasks, map_len);
+
+    uint8_t *map = room(map_len, 1);
+    size_t plan_len;
+    uint32_t *plan = plan_of(set, set_len, map, map_len, &plan_len);
+    printf("forbidden boxes: %zu, unsafe boxes: %zu, dead states: %zu\n", count(plan, plan_len, ARBITER_FORBIDDEN_BOX),
+           count(plan, plan_len, ARBITER_UNSAFE_BOX), count(plan, plan_len, ARBITER_DEAD_STATE));
+
+    arbiter_record record = arbiter_fresh();
+    size_t done = 0;
+    for (size_t round = 1; done < tasks; round++) {
+        done = 0;
+        for (size_t task = 0; task < tasks; task++) {
+            if (finished(&record, set, set_len, map, map_len, round, task)) done++;
+        }
+    }
+    printf("grants: %u\n", (unsigned)record.grants);
+
+    value_of(arbiter_again(&record, set, set_len));
+    printf("again: every task is at its start\n");
+
+    uint8_t *route = room(set_len, 1);
+    size_t steps = value_of(arbiter_route(arbiter_fresh(), set, set_len, map, map_len, route, set_len));
+    printf("route:");
+    for (size_t i = 0; i < steps; i++) printf(" %u", (unsigned)route[i]);
+    printf("\n");
+
+    free(route);
+    free(plan);
+    free(map);
+    return 0;
+}

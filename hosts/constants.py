@@ -1,0 +1,128 @@
+#!/usr/bin/env python3
+"""constants.py [ROOT]: holds the numbers of the proved source, the C header and the Rust interface to document 01 and to each other.
+
+The same names with the same values must stand in all three, none missing and none left over: X in the source, ARBITER_X in C, X in Rust; in the
+source and in Rust with the same type. The refusals' texts must be the same in C and Rust. ROOT is the repository, by default the one that
+this file is in.
+"""
+import re
+import sys
+from pathlib import Path
+
+# Document 01's numbers: its limits, and its lists in their order.
+LIMITS = {
+    "MAX_WORDS": 4096,
+    "MAX_DEVICES": 16,
+    "MAX_CAPACITY": 8,
+    "MAX_TASKS": 8,
+    "MAX_ACTIONS": 255,
+    "MAX_GRID": 65536,
+    "FIELDS": 1 << 28,
+    "NO_STEP": 255,
+}
+WORD_KINDS = "DEVICE TASK CLAIM RELEASE END FORBIDDEN_BOX UNSAFE_BOX SIDE DEAD_STATE".split()
+MAP_BYTES = "OPEN FORBIDDEN UNSAFE DEAD".split()
+REFUSALS = """
+    NO_WORDS TOO_MANY_WORDS WORD_AFTER_END UNKNOWN_KIND OUT_OF_ORDER FIELD_NOT_ALLOWED TOO_MANY CLAIM_OF_HELD RELEASE_OF_NOT_HELD STILL_HELD NO_END
+    GRID_TOO_LARGE MAP_TOO_SHORT PLAN_TOO_SHORT BYTES_NOT_WORDS BAD_RECORD NO_SUCH_TASK BAD_MAP_BYTE NOT_AT_END NO_ROUTE ROUTE_TOO_SHORT
+    """.split()
+
+# The kinds of an answer are the interface's own.
+ANSWER_KINDS = "REFUSED ACCEPTED PLANNED ROUTED GRANTED FINISHED BUSY HELD RESTARTED".split()
+
+
+def numbered(names, first):
+    return {name: number for number, name in enumerate(names, first)}
+
+
+WANTED = {
+    **LIMITS,
+    **numbered(WORD_KINDS, 1),
+    **numbered(MAP_BYTES, 0),
+    **numbered(REFUSALS, 1),
+    **numbered(ANSWER_KINDS, 0),
+}
+
+complaints = []
+
+
+def once(pairs, where):
+    """The pairs as a dict; a name that comes twice is a complaint."""
+    found = {}
+    for name, value in pairs:
+        if name in found:
+            complaints.append(f"{where}: {name} stands there twice")
+        found[name] = value
+    return found
+
+
+def number(text, where):
+    try:
+        return int(text.replace("_", ""), 0)
+    except ValueError:
+        complaints.append(f"{where}: {text} isn't a plain number")
+
+
+def of_source(paths, where):
+    """The public constants outside impl blocks, in Rattle or Rust: name to value, and name to type."""
+    text = "\n".join(path.read_text() for path in paths)
+    rows = re.findall(r"^pub const (\w+): (\w+) = ([^;]+);", text, re.M)
+    values = once([(name, number(value, where)) for name, _, value in rows], where)
+    return values, {name: kind for name, kind, _ in rows}
+
+
+def of_header(path):
+    """The macros of the header that have a value, without their ARBITER_."""
+    rows = re.findall(r"^[ \t]*#[ \t]*define[ \t]+(\w+)[ \t]+([^\s/]+)", path.read_text(), re.M)
+    pairs = []
+    for name, value in rows:
+        if name.startswith("ARBITER_"):
+            pairs.append((name[len("ARBITER_"):], number(value, path.name)))
+        else:
+            complaints.append(f"{path.name}: {name} doesn't start with ARBITER_")
+    return once(pairs, path.name)
+
+
+def compare(found, wanted, where, what="value"):
+    for name in sorted(wanted.keys() - found.keys()):
+        complaints.append(f"{where}: no {what} for {name}")
+    for name in sorted(found.keys() - wanted.keys()):
+        complaints.append(f"{where}: {name} stands nowhere else")
+    for name in sorted(wanted.keys() & found.keys()):
+        if found[name] != wanted[name]:
+            complaints.append(f"{where}: {name} has the {what} {found[name]!r}, not {wanted[name]!r}")
+
+
+def camel(name):
+    return "".join(part.capitalize() for part in name.split("_"))
+
+
+def main(root):
+    source = [root / "crates/model/src/lib.rt", *sorted((root / "crates/arbiter/src").glob("*.rt")), root / "crates/route/src/lib.rt"]
+    header = root / "include/arbiter.h"
+    safe = root / "hosts/rust/src/lib.rs"
+
+    values, types = of_source(source, "the source")
+    compare(values, WANTED, "the source")
+    rust_values, rust_types = of_source([root / "hosts/rust/src/sys.rs"], "sys.rs")
+    compare(rust_values, WANTED, "sys.rs")
+    both = types.keys() & rust_types.keys()
+    compare({name: rust_types[name] for name in both}, {name: types[name] for name in both}, "sys.rs", "type")
+    compare(of_header(header), WANTED, "arbiter.h")
+
+    variants = once(re.findall(r"^\s*(\w+) = sys::(\w+),", safe.read_text(), re.M), "lib.rs")
+    compare(variants, {camel(name): name for name in REFUSALS}, "lib.rs", "number")
+    texts = once(re.findall(r'case ARBITER_(\w+):\s*return "([^"]*)";', header.read_text()), "arbiter.h")
+    rust_texts = once(re.findall(r'Refusal::(\w+) =>\s*\{?\s*"([^"]*)"', safe.read_text()), "lib.rs")
+    compare(texts, {name: texts.get(name, "") for name in REFUSALS}, "arbiter.h", "text")
+    compare(rust_texts, {camel(name): text for name, text in texts.items()}, "lib.rs", "text")
+
+    for complaint in complaints:
+        print(complaint)
+    if complaints:
+        sys.exit(1)
+    print(f"constants: {len(WANTED)} agree in the source, arbiter.h and sys.rs, and {len(texts)} refusal texts")
+
+
+if __name__ == "__main__":
+    main(Path(sys.argv[1]) if len(sys.argv) > 1 else Path(__file__).resolve().parent.parent)

@@ -1,0 +1,98 @@
+//! The library as it is: the calls of `include/arbiter.h`, its two structs and every number by name.
+//!
+//! Nothing here is safe to call without reading `docs/HOSTS.md`; the crate's root has the safe interface.
+
+/// A task's position for each of the eight tasks, 0 for absent ones, and the grant number.
+#[repr(C)]
+#[derive(Clone, Copy, Debug, PartialEq, Eq)]
+pub struct Record {
+    pub positions: [u8; MAX_TASKS],
+    pub grants: u32,
+}
+
+/// What a call answers: its kind, the refusal's number (0 without one), and a value: see the kinds.
+#[repr(C)]
+#[derive(Clone, Copy, Debug, PartialEq, Eq)]
+pub struct Answer {
+    pub kind: u32,
+    pub refusal: u32,
+    pub value: u64,
+}
+
+extern "C" {
+    pub fn arbiter_read(set: *const u32, set_len: usize) -> Answer;
+    pub fn arbiter_analyse(set: *const u32, set_len: usize, map: *mut u8, map_len: usize, plan: *mut u32, plan_len: usize) -> Answer;
+    pub fn arbiter_fresh() -> Record;
+    pub fn arbiter_bid(record: *mut Record, set: *const u32, set_len: usize, map: *const u8, map_len: usize, task: usize) -> Answer;
+    pub fn arbiter_again(record: *mut Record, set: *const u32, set_len: usize) -> Answer;
+    pub fn arbiter_route(record: Record, set: *const u32, set_len: usize, map: *const u8, map_len: usize, route: *mut u8, route_len: usize) -> Answer;
+}
+
+// The kinds of an answer. A zeroed answer is a refusal.
+pub const REFUSED: u32 = 0; // value: the refusal's place
+pub const ACCEPTED: u32 = 1; // a set that is read; value: the grid, the number of its states
+pub const PLANNED: u32 = 2; // value: the number of plan words
+pub const ROUTED: u32 = 3; // value: the route's length
+pub const GRANTED: u32 = 4;
+pub const FINISHED: u32 = 5;
+pub const BUSY: u32 = 6; // value: the device that the next action names
+pub const HELD: u32 = 7; // value: the next state's rank
+pub const RESTARTED: u32 = 8;
+
+// The limits of a set.
+pub const MAX_WORDS: usize = 4096;
+pub const MAX_DEVICES: usize = 16;
+pub const MAX_CAPACITY: u32 = 8;
+pub const MAX_TASKS: usize = 8;
+pub const MAX_ACTIONS: u8 = 255;
+pub const MAX_GRID: u32 = 65536;
+
+// A word is its kind times this, plus its field.
+pub const FIELDS: u32 = 0x1000_0000;
+
+// The kinds of a set's words; a plan ends with END too.
+pub const DEVICE: u32 = 1;
+pub const TASK: u32 = 2;
+pub const CLAIM: u32 = 3;
+pub const RELEASE: u32 = 4;
+pub const END: u32 = 5;
+
+// The kinds of a plan's words.
+pub const FORBIDDEN_BOX: u32 = 6;
+pub const UNSAFE_BOX: u32 = 7;
+pub const SIDE: u32 = 8;
+pub const DEAD_STATE: u32 = 9;
+
+// The map's bytes.
+pub const OPEN: u8 = 0;
+pub const FORBIDDEN: u8 = 1;
+pub const UNSAFE: u8 = 2;
+pub const DEAD: u8 = 3;
+
+// What a refused route leaves in every byte of its slice.
+pub const NO_STEP: u8 = 255;
+
+// The refusals of a set.
+pub const NO_WORDS: u8 = 1;
+pub const TOO_MANY_WORDS: u8 = 2;
+pub const WORD_AFTER_END: u8 = 3;
+pub const UNKNOWN_KIND: u8 = 4;
+pub const OUT_OF_ORDER: u8 = 5;
+pub const FIELD_NOT_ALLOWED: u8 = 6;
+pub const TOO_MANY: u8 = 7;
+pub const CLAIM_OF_HELD: u8 = 8;
+pub const RELEASE_OF_NOT_HELD: u8 = 9;
+pub const STILL_HELD: u8 = 10;
+pub const NO_END: u8 = 11;
+pub const GRID_TOO_LARGE: u8 = 12;
+
+// The refusals of lent slices, input bytes, records and calls.
+pub const MAP_TOO_SHORT: u8 = 13;
+pub const PLAN_TOO_SHORT: u8 = 14;
+pub const BYTES_NOT_WORDS: u8 = 15;
+pub const BAD_RECORD: u8 = 16;
+pub const NO_SUCH_TASK: u8 = 17;
+pub const BAD_MAP_BYTE: u8 = 18;
+pub const NOT_AT_END: u8 = 19;
+pub const NO_ROUTE: u8 = 20;
+pub const ROUTE_TOO_SHORT: u8 = 21;

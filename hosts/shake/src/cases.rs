@@ -1,0 +1,617 @@
+//! Makers of inputs: lists of words, good and bad, and what is lent beside them: maps, records, task numbers and the lengths of slices.
+
+use crate::random::Random;
+use crate::reference::{Record, Set, TASKS};
+
+fn device(capacity: usize) -> u32 {
+    0x1000_0000 | capacity as u32
+}
+const TASK: u32 = 0x2000_0000;
+fn claim(device: usize) -> u32 {
+    0x3000_0000 | device as u32
+}
+fn release(device: usize) -> u32 {
+    0x4000_0000 | device as u32
+}
+fn end(index: usize) -> u32 {
+    0x5000_0000 | index as u32
+}
+
+/// The words of a set, each task a list of claims and releases.
+pub fn words_of(capacities: &[usize], tasks: &[Vec<u32>]) -> Vec<u32> {
+    let mut words: Vec<u32> = capacities.iter().map(|&capacity| device(capacity)).collect();
+    for task in tasks {
+        words.push(TASK);
+        words.extend(task);
+    }
+    words.push(end(words.len()));
+    words
+}
+
+pub fn example_a() -> Vec<u32> {
+    words_of(&[1, 1], &[vec![claim(0), claim(1), release(1), release(0)], vec![claim(1), claim(0), release(0), release(1)]])
+}
+
+/// How many kinds of refused lists `faulty` is asked for: the refusals 1 to 12.
+const FAULTS: u64 = 12;
+
+/// The list of words of one input. Kinds take turns, so that a short run has all of them.
+pub fn words(random: &mut Random, input: u64) -> Vec<u32> {
+    let round = input / 16;
+    match input % 16 {
+        0..=3 => sized(random, &[12, 50, 200, 200, 600, 2000]),
+        4 => few_devices(random),
+        5 | 6 => crossing(random),
+        7 => family(random, false),
+        8..=10 => faulty(random, 1 + (round % FAULTS) as usize),
+        11 | 12 => damaged(random),
+        13 => noise(random),
+        14 => if round % 24 == 3 { large(random) } else { sized(random, &[9, 30, 100, 300]) },
+        _ => limits(random, round),
+    }
+}
+
+// --- Good sets ---
+
+/// Random even action counts whose grid is at most this.
+fn lengths(random: &mut Random, tasks: usize, most: usize) -> Vec<usize> {
+    let mut lengths = vec![0; tasks];
+    let mut order: Vec<usize> = (0..tasks).collect();
+    random.shuffle(&mut order);
+    let mut grid = 1;
+    for task in order {
+        let room = (most / grid - 1).min(254) / 2;
+        if room > 0 && !random.one_in(8) {
+            // Mostly not the whole room, which would leave nothing to the other tasks.
+            let length = 2 * if random.one_in(4) { random.between(0, room) } else { random.between(1, room.min(5)) };
+            lengths[task] = length;
+            grid *= length + 1;
+        }
+    }
+    lengths
+}
+
+/// A task of so many actions, an even number, over some of the devices: claims and releases as they come, all released at the close.
+fn actions(random: &mut Random, length: usize, devices: &[usize]) -> Vec<u32> {
+    let mut held: Vec<usize> = Vec::new();
+    let mut actions = Vec::with_capacity(length);
+    let eager = random.between(2, 5);
+    while actions.len() < length && !devices.is_empty() {
+        let left = length - actions.len();
+        let can_claim = held.len() + 2 <= left && held.len() < devices.len();
+        if held.is_empty() || (can_claim && !random.one_in(eager)) {
+            let free: Vec<usize> = devices.iter().copied().filter(|device| !held.contains(device)).collect();
+            let device = random.pick(&free);
+            held.push(device);
+            actions.push(claim(device));
+        } else {
+            let device = held.remove(random.below(held.len()));
+            actions.push(release(device));
+        }
+    }
+    actions
+}
+
+fn capacities(random: &mut Random, devices: usize) -> Vec<usize> {
+    let tight = random.one_in(2);
+    (0..devices).map(|_| if tight { random.pick(&[1, 1, 1, 1, 2]) } else { random.pick(&[1, 1, 2, 2, 3, 4, 5, 6, 7, 8]) }).collect()
+}
+
+/// Any set with these action counts: unused devices, idle tasks and several holds of one device come of themselves.
+fn any_set(random: &mut Random, lengths: &[usize]) -> Vec<u32> {
+    let mut devices = random.pick(&[0, 1, 1, 2, 2, 3, 3, 4, 5, 8, 16]);
+    if lengths.iter().any(|&length| length > 0) {
+        devices = devices.max(1);
+    }
+    let capacities = capacities(random, devices);
+    let all: Vec<usize> = (0..devices).collect();
+    let tasks: Vec<Vec<u32>> = lengths.iter().map(|&length| actions(random, length, &all)).collect();
+    words_of(&capacities, &tasks)
+}
+
+fn sized(random: &mut Random, grids: &[usize]) -> Vec<u32> {
+    let tasks = random.between(1, 8);
+    let most = random.pick(grids);
+    let lengths = lengths(random, tasks, most);
+    any_set(random, &lengths)
+}
+
+/// Many holds of one or two devices, at every capacity: long lists of forbidden boxes.
+fn few_devices(random: &mut Random) -> Vec<u32> {
+    let tasks = random.between(2, 8);
+    let lengths = lengths(random, tasks, 900);
+    let devices = random.between(1, 2);
+    let capacities: Vec<usize> = (0..devices).map(|_| random.between(1, tasks)).collect();
+    let all: Vec<usize> = (0..devices).collect();
+    let tasks: Vec<Vec<u32>> = lengths.iter().map(|&length| actions(random, length, &all)).collect();
+    words_of(&capacities, &tasks)
+}
+
+/// Biased to deadlock: each task claims some devices in an order of its own before it releases any of them.
+fn crossing(random: &mut Random) -> Vec<u32> {
+    let tasks = random.between(2, 5);
+    let devices = random.between(2, 4);
+    let mut capacities = vec![1; devices];
+    if tasks > 2 && random.one_in(3) {
+        capacities[0] = 2;
+    }
+    let mut lists = Vec::new();
+    let mut grid = 1;
+    for _ in 0..tasks {
+        let mut list = Vec::new();
+        for _ in 0..random.pick(&[1, 1, 1, 2]) {
+            let mut order: Vec<usize> = (0..devices).collect();
+            random.shuffle(&mut order);
+            order.truncate(random.between(1, devices.min(3)));
+            list.extend(order.iter().map(|&device| claim(device)));
+            random.shuffle(&mut order);
+            list.extend(order.iter().map(|&device| release(device)));
+        }
+        if grid * (list.len() + 1) > 1500 {
+            list.clear();
+        }
+        grid *= list.len() + 1;
+        lists.push(list);
+    }
+    words_of(&capacities, &lists)
+}
+
+/// Known families at random sizes; the largest grids there are if `whole`.
+fn family(random: &mut Random, whole: bool) -> Vec<u32> {
+    let repeat = |times: usize, actions: &[u32]| -> Vec<u32> { (0..times).flat_map(|_| actions.to_vec()).collect() };
+    let (capacities, mut tasks) = match random.below(5) {
+        0 => {
+            // A ring of philosophers.
+            let n = if whole { 6 } else { random.between(2, 4) };
+            let tasks = (0..n).map(|i| vec![claim(i), claim((i + 1) % n), release(i), release((i + 1) % n)]).collect();
+            (vec![1; n], tasks)
+        }
+        1 => {
+            // Two tasks that cross again and again.
+            let n = if whole { random.between(55, 63) } else { random.between(1, 6) };
+            let there = repeat(n, &[claim(0), claim(1), release(1), release(0)]);
+            let back = repeat(n, &[claim(1), claim(0), release(0), release(1)]);
+            (vec![1, 1], vec![there, back])
+        }
+        2 => {
+            // One device claimed and released again and again.
+            let n = if whole { random.between(110, 127) } else { random.between(1, 10) };
+            let one = repeat(n, &[claim(0), release(0)]);
+            (vec![random.between(1, 2)], vec![one.clone(), one])
+        }
+        3 => {
+            // One great unsafe box.
+            let n = if whole { random.between(110, 125) } else { random.between(1, 8) };
+            let task = |own: usize, other: usize, filler: usize| -> Vec<u32> {
+                let mut task = vec![claim(own)];
+                task.extend(repeat(n, &[claim(filler), release(filler)]));
+                task.extend([claim(other), release(other), release(own)]);
+                task
+            };
+            (vec![1; 4], vec![task(0, 1, 2), task(1, 0, 3)])
+        }
+        _ => {
+            // Fine tiles: hand over hand through two devices, then the other task's two before the last is released.
+            let n = if whole { random.between(100, 125) } else { random.between(2, 9) };
+            let task = |first: usize, second: usize, others: [usize; 2]| -> Vec<u32> {
+                let mut task = vec![claim(first)];
+                let (mut here, mut there) = (first, second);
+                for _ in 1..n {
+                    task.extend([claim(there), release(here)]);
+                    std::mem::swap(&mut here, &mut there);
+                }
+                task.extend([claim(others[0]), claim(others[1]), release(others[0]), release(others[1]), release(here)]);
+                task
+            };
+            (vec![1; 4], vec![task(0, 1, [3, 2]), task(2, 3, [0, 1])])
+        }
+    };
+    // Idle tasks between the others.
+    if random.one_in(2) {
+        for _ in 0..random.below(9 - tasks.len()) {
+            tasks.insert(random.below(tasks.len() + 1), Vec::new());
+        }
+    }
+    words_of(&capacities, &tasks)
+}
+
+/// Grids next to the largest.
+fn large(random: &mut Random) -> Vec<u32> {
+    match random.below(6) {
+        0 => any_set(random, &[254, 254]),
+        1 => {
+            // 13 times 71 times 71 is 65,533, the largest grid there is.
+            let mut lengths = [12, 70, 70];
+            random.shuffle(&mut lengths);
+            any_set(random, &lengths)
+        }
+        2 | 3 => family(random, true),
+        _ => {
+            let tasks = random.between(3, 8);
+            let lengths = lengths(random, tasks, 65536);
+            any_set(random, &lengths)
+        }
+    }
+}
+
+/// Next to the limits on words, devices, tasks, actions and the grid; some of them over.
+fn limits(random: &mut Random, round: u64) -> Vec<u32> {
+    let all: Vec<usize> = (0..16).collect();
+    match round % 12 {
+        0 => {
+            // All 16 devices and all eight tasks: 6,561 states.
+            let lengths = if random.one_in(3) { [2; 8] } else { [2, 0, 2, 4, 0, 2, 2, 0] };
+            let tasks: Vec<Vec<u32>> = lengths.iter().map(|&length| actions(random, length, &all)).collect();
+            let capacities: Vec<usize> = (0..16).map(|_| random.pick(&[1, 8])).collect();
+            words_of(&capacities, &tasks)
+        }
+        1 => {
+            // One task of 254 actions among idle ones.
+            let devices = random.between(1, 16);
+            let mut tasks = vec![Vec::new(); random.between(0, 7)];
+            tasks.insert(random.below(tasks.len() + 1), actions(random, 254, &all[..devices]));
+            words_of(&vec![1; devices], &tasks)
+        }
+        2 => {
+            // 65,549 states, the smallest grid that is refused.
+            let mut lengths = [10, 58, 100];
+            random.shuffle(&mut lengths);
+            any_set(random, &lengths)
+        }
+        3 => {
+            // The longest list without a faulty word: 2,057 words, or nearly. Its grid takes 64 bits.
+            let length = 254 - 2 * random.below(3);
+            let tasks: Vec<Vec<u32>> = (0..8).map(|_| actions(random, length, &all)).collect();
+            words_of(&[8; 16], &tasks)
+        }
+        4 => {
+            // Grids that are small when cut to 32 bits.
+            let mut lengths = random.pick(&[
+                [162, 144, 192, 158, 254, 242, 140, 170],
+                [242, 194, 212, 254, 156, 182, 180, 236],
+                [220, 224, 148, 142, 162, 140, 70, 88],
+                [176, 250, 146, 192, 232, 178, 22, 178],
+            ]);
+            random.shuffle(&mut lengths);
+            any_set(random, &lengths)
+        }
+        5 => {
+            // 4,096 words and a few more or less.
+            let mut words = family(random, false);
+            let len = random.between(4093, 4099);
+            words.pop();
+            while words.len() < len {
+                words.push(TASK);
+            }
+            words
+        }
+        6 => vec![device(8); random.between(14, 18)],
+        7 => {
+            let mut words = vec![TASK; random.between(6, 10)];
+            words.push(end(words.len()));
+            words
+        }
+        8 => {
+            // A task of 253 to 257 actions.
+            let devices = random.between(1, 16);
+            let mut words = words_of(&vec![2; devices], &[]);
+            words.pop();
+            words.push(TASK);
+            words.extend(actions(random, 258, &all[..devices]));
+            words.truncate(devices + 1 + random.between(253, 257));
+            words.push(if random.one_in(2) { TASK } else { end(words.len()) });
+            words
+        }
+        9 => {
+            // Two tasks of 254 actions pass, a third of 2 doesn't. With 16 devices and six idle tasks that is 533 words, the longest list that is accepted.
+            let mut lengths = [254, 254, 2 * random.below(2), 0, 0, 0, 0, 0];
+            if !random.one_in(4) {
+                lengths[0] = 2;
+            }
+            random.shuffle(&mut lengths);
+            let tasks: Vec<Vec<u32>> = lengths.iter().map(|&length| actions(random, length, &all)).collect();
+            words_of(&capacities(random, 16), &tasks)
+        }
+        10 => {
+            // No device at all.
+            words_of(&[], &vec![Vec::new(); random.between(1, 8)])
+        }
+        _ => {
+            // A capacity of one less than the tasks, of as many, of one more.
+            let tasks = random.between(2, 8);
+            let capacity = random.between((tasks - 1).max(1), (tasks + 1).min(8));
+            let lists: Vec<Vec<u32>> = (0..tasks).map(|_| vec![claim(0), release(0)]).collect();
+            words_of(&[capacity], &lists)
+        }
+    }
+}
+
+// --- Bad lists ---
+
+/// Any word that might do harm at some place.
+fn odd_word(random: &mut Random, index: usize) -> u32 {
+    match random.below(6) {
+        0 => random.next() as u32,
+        1 => (random.below(16) as u32) << 28 | random.below(20) as u32,
+        2 => end(index),
+        3 => random.pick(&[TASK, device(1), device(9), claim(0), release(0), claim(15), claim(16), end(0)]),
+        4 => (random.between(1, 5) as u32) << 28 | random.pick(&[0x0FFF_FFFF, 0x0100_0000, 0x0001_0001, 0x100, 0x10]),
+        _ => (random.between(1, 5) as u32) << 28 | random.below(4) as u32,
+    }
+}
+
+/// A list made to bring one refusal, at any of the places where it can come; an earlier fault may still win.
+fn faulty(random: &mut Random, number: usize) -> Vec<u32> {
+    let mut words = match random.below(4) {
+        0 => crossing(random),
+        1 => family(random, false),
+        _ => sized(random, &[50, 300, 2000]),
+    };
+    let at_any = |random: &mut Random, words: &[u32], kinds: &[u32]| -> Option<usize> {
+        let places: Vec<usize> = (0..words.len()).filter(|&i| kinds.contains(&(words[i] >> 28))).collect();
+        if places.is_empty() { None } else { Some(random.pick(&places)) }
+    };
+    // A list that is changed in the middle has its END put right, so that the change alone is what is wrong.
+    let set_end = |words: &mut Vec<u32>| {
+        let last = words.len() - 1;
+        words[last] = end(last);
+    };
+    match number {
+        1 => words.clear(),
+        2 => {
+            let len = random.pick(&[4097, 4097, 4098, 5000, 16384, 70000]);
+            let zeros = random.one_in(2);
+            while words.len() < len {
+                words.push(if zeros { 0 } else { random.next() as u32 });
+            }
+        }
+        3 => {
+            for _ in 0..random.between(1, 5) {
+                let index = words.len();
+                words.push(odd_word(random, index));
+            }
+        }
+        4 => {
+            let at = random.below(words.len());
+            words[at] = random.pick(&[0, 6, 7, 8, 9, 10, 15]) << 28 | words[at] & 0x0FFF_FFFF;
+        }
+        5 => {
+            if let (Some(at), false) = (at_any(random, &words, &[2]), random.one_in(3)) {
+                let after = random.between(at + 1, words.len() - 1);
+                words.insert(after, device(random.between(0, 9)));
+                set_end(&mut words);
+            } else {
+                let first = words.iter().position(|word| *word == TASK).unwrap();
+                let at = random.between(0, first);
+                words.insert(at, random.pick(&[claim(0), release(0), claim(99), release(99), end(at), end(at + 1)]));
+            }
+        }
+        6 => {
+            let at = random.below(words.len());
+            let high = random.pick(&[1 << 4, 1 << 8, 1 << 16, 1 << 24, 1 << 27]);
+            words[at] = match words[at] >> 28 {
+                1 => random.pick(&[device(0), device(9), device(16), words[at] | high]),
+                2 => TASK | random.pick(&[1, 2, high, 0x0FFF_FFFF]),
+                5 => random.pick(&[words[at] + 1, words[at] - 1, words[at] | high, end(0)]),
+                kind => kind << 28 | random.pick(&[device_count(&words), 16, 255, 0x0FFF_FFFF, words[at] & 15 | high]),
+            };
+        }
+        7 => match random.below(3) {
+            0 => {
+                let devices = device_count(&words) as usize;
+                for _ in devices..random.between(17, 19) {
+                    words.insert(0, device(random.between(1, 8)));
+                }
+                set_end(&mut words);
+            }
+            1 => {
+                let tasks = words.iter().filter(|word| **word == TASK).count();
+                let last = words.len() - 1;
+                for _ in tasks..random.between(9, 10) {
+                    words.insert(last, TASK);
+                }
+                set_end(&mut words);
+            }
+            _ => {
+                // 255 actions leave something held, and the next is one too many, whatever it is.
+                words = words_of(&[1, 1], &[]);
+                words.pop();
+                for _ in 0..random.between(1, 3) {
+                    words.push(TASK);
+                }
+                for i in 0..255 {
+                    words.push(if i % 2 == 0 { claim(0) } else { release(0) });
+                }
+                words.push(random.pick(&[claim(0), claim(1), release(0), release(1), claim(2)]));
+                words.push(end(words.len()));
+            }
+        },
+        8 => {
+            if let Some(at) = at_any(random, &words, &[3]) {
+                words.insert(at + 1, words[at]);
+                set_end(&mut words);
+            }
+        }
+        9 => {
+            if let Some(at) = at_any(random, &words, &[4]) {
+                words.insert(at + 1, words[at]);
+                set_end(&mut words);
+            }
+        }
+        10 => {
+            if let Some(at) = at_any(random, &words, &[4]) {
+                words.remove(at);
+                set_end(&mut words);
+            }
+        }
+        11 => words.truncate(random.below(words.len())),
+        _ => {
+            let tasks = random.between(3, 8);
+            let lengths: Vec<usize> = (0..tasks).map(|_| 2 * random.between(20, 127)).collect();
+            words = any_set(random, &lengths);
+        }
+    }
+    words
+}
+
+fn device_count(words: &[u32]) -> u32 {
+    words.iter().filter(|word| **word >> 28 == 1).count() as u32
+}
+
+/// A good list with a few words changed, dropped, doubled, swapped, or one bit turned.
+fn damaged(random: &mut Random) -> Vec<u32> {
+    let mut words = match random.below(3) {
+        0 => crossing(random),
+        1 => family(random, false),
+        _ => sized(random, &[50, 300]),
+    };
+    for _ in 0..random.between(1, 3) {
+        if words.is_empty() {
+            break;
+        }
+        let at = random.below(words.len());
+        match random.below(6) {
+            0 => words[at] ^= 1 << random.below(32),
+            1 => words[at] = odd_word(random, at),
+            2 => {
+                words.remove(at);
+            }
+            3 => words.insert(at, words[at]),
+            4 => {
+                let other = random.below(words.len());
+                words.swap(at, other);
+            }
+            _ => words[at] = (words[at] & 0xF000_0000) | random.below(4) as u32,
+        }
+        // Half of them get a right END again, so that what comes behind the words is reached.
+        if random.one_in(2) && words.last().is_some_and(|word| word >> 28 == 5) {
+            let last = words.len() - 1;
+            words[last] = end(last);
+        }
+    }
+    words
+}
+
+/// Nothing but noise, or noise of the right kinds.
+fn noise(random: &mut Random) -> Vec<u32> {
+    let len = if random.one_in(20) { random.between(1, 4100) } else { random.between(1, 40) };
+    let likely = random.one_in(2);
+    (0..len).map(|index| if likely { odd_word(random, index) } else { random.next() as u32 }).collect()
+}
+
+// --- What is lent beside the words ---
+
+/// A length for a slice of which `needed` are needed: too short, just enough, or longer.
+pub fn length(random: &mut Random, needed: usize) -> usize {
+    match random.below(8) {
+        0 => 0,
+        1 => needed.saturating_sub(1),
+        2 if needed > 0 => random.below(needed),
+        3 | 4 => needed,
+        5 => needed + 1,
+        6 => needed + random.below(100),
+        _ => needed + random.below(10),
+    }
+}
+
+/// A map to lend: the set's own, or one that is damaged, or that has nothing to do with it.
+pub fn lent_map(random: &mut Random, own: &[u8]) -> Vec<u8> {
+    const BYTES: [u8; 8] = [0, 1, 2, 3, 4, 5, 128, 255];
+    let mut map = own.to_vec();
+    match random.below(10) {
+        0..=2 => {}
+        3 => {
+            for _ in 0..random.between(1, 8) {
+                let at = random.below(map.len());
+                map[at] = random.pick(&BYTES);
+            }
+        }
+        4..=6 => {
+            // Every so often a step is shut: routes get stuck, and a bid meets a release at a forbidden state.
+            let rare = random.between(2, 12);
+            for byte in map.iter_mut() {
+                if random.one_in(rare) {
+                    *byte = random.pick(&BYTES[1..]);
+                }
+            }
+        }
+        7 => map.iter_mut().for_each(|byte| *byte = random.pick(&BYTES)),
+        8 => map.iter_mut().for_each(|byte| *byte = random.pick(&[0, 0, 0, 1])),
+        _ => map.fill(random.pick(&BYTES)),
+    }
+    // Beyond the grid anything may stand; too short a map brings 13.
+    let keep = map.len();
+    match random.below(12) {
+        0 => map.truncate(random.below(keep)),
+        1 => map.truncate(keep - 1),
+        2 | 3 => map.extend((0..random.between(1, 20)).map(|_| random.next() as u8)),
+        _ => {}
+    }
+    map
+}
+
+fn grants(random: &mut Random) -> u32 {
+    match random.below(4) {
+        0 => random.pick(&[0, 1, u32::MAX, u32::MAX - 1, 1 << 31, (1 << 31) - 1]),
+        _ => random.next() as u32,
+    }
+}
+
+/// A record for a set: at a state of any kind, mostly an open one, or one that no state of the set has.
+pub fn record(random: &mut Random, set: &Set, map: &[u8]) -> Record {
+    let tasks = set.tasks.len();
+    let mut positions = [0u8; TASKS];
+    let tries = if random.one_in(3) { 1 } else { 10 };
+    for _ in 0..tries {
+        for task in 0..tasks {
+            positions[task] = random.between(0, set.length(task)) as u8;
+        }
+        if map.get(set.rank(&positions)) == Some(&0) {
+            break;
+        }
+    }
+    match random.below(12) {
+        0 => positions = set.end(),
+        1 => {
+            // One action before the end.
+            positions = set.end();
+            let task = random.below(tasks);
+            positions[task] = positions[task].saturating_sub(1);
+        }
+        2 => {
+            let task = random.below(TASKS);
+            let most = if task < tasks { set.length(task) } else { 0 };
+            positions[task] = random.pick(&[most as u8 + 1, 255, 128]);
+        }
+        3 => positions[random.below(TASKS)] = random.next() as u8,
+        _ => {}
+    }
+    Record { positions, grants: grants(random) }
+}
+
+/// A record that knows nothing of the set.
+pub fn any_record(random: &mut Random) -> Record {
+    let mut positions = [0; TASKS];
+    if random.one_in(2) {
+        positions = random.next().to_le_bytes();
+    }
+    Record { positions, grants: grants(random) }
+}
+
+/// A task's number: mostly one of the set's, else one that is none, some of which look like one when cut to 32 or 8 bits.
+pub fn task(random: &mut Random, tasks: usize) -> usize {
+    if !random.one_in(6) {
+        return random.below(tasks);
+    }
+    let small = random.below(8) as u64;
+    random.pick(&[tasks as u64, 7, 8, 255, 256 + small, 1 << 16, 1 << 32, (1 << 32) + small, 1 << 63, (1 << 63) + small, u64::MAX, u64::MAX - small]) as usize
+}
+
+/// The same, and mostly one that has actions left.
+pub fn unfinished_task(random: &mut Random, set: &Set, record: &Record) -> usize {
+    let left: Vec<usize> = (0..set.tasks.len()).filter(|&task| (record.positions[task] as usize) < set.length(task)).collect();
+    if left.is_empty() || random.one_in(4) {
+        return task(random, set.tasks.len());
+    }
+    random.pick(&left)
+}

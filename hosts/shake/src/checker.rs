@@ -1,0 +1,248 @@
+//! Makes each call twice, through the library and through the reference, and compares the answers and every byte that was lent.
+
+use crate::fenced::Fenced;
+use crate::random::Random;
+use crate::reference::{Answer, Record, Worked};
+use arbiter::sys;
+use std::fmt::Debug;
+
+pub const CALLS: [&str; 5] = ["read", "analyse", "bid", "again", "route"];
+
+#[derive(Clone, Copy)]
+pub enum Call {
+    Read,
+    Analyse,
+    Bid,
+    Again,
+    Route,
+}
+
+/// How often each call gave each answer.
+#[derive(Default)]
+pub struct Seen {
+    pub kinds: [[u64; 9]; 5],
+    pub refusals: [[u64; 22]; 5],
+}
+
+/// What the accepted sets were like.
+#[derive(Default)]
+pub struct Sets {
+    accepted: usize,
+    with_forbidden: usize,
+    with_unsafe: usize,
+    with_dead: usize,
+    over_60000: usize,
+    most_words: usize,
+    largest_grid: usize,
+    longest_plan: usize,
+}
+
+impl Sets {
+    pub fn count(&mut self, words: &[u32], worked: &Worked) {
+        self.accepted += 1;
+        self.with_forbidden += worked.map.contains(&1) as usize;
+        self.with_unsafe += worked.map.contains(&2) as usize;
+        self.with_dead += worked.map.contains(&3) as usize;
+        self.over_60000 += (worked.map.len() > 60_000) as usize;
+        self.most_words = self.most_words.max(words.len());
+        self.largest_grid = self.largest_grid.max(worked.map.len());
+        self.longest_plan = self.longest_plan.max(worked.plan.len());
+    }
+}
+
+impl std::fmt::Display for Sets {
+    fn fmt(&self, out: &mut std::fmt::Formatter) -> std::fmt::Result {
+        write!(
+            out,
+            "{} accepted sets: {} with forbidden states, {} with dead ones, {} with unsafe ones that aren't dead; {} grids over 60,000; \
+             at most {} words, {} states, {} plan words",
+            self.accepted, self.with_forbidden, self.with_dead, self.with_unsafe, self.over_60000, self.most_words, self.largest_grid, self.longest_plan
+        )
+    }
+}
+
+pub struct Checker {
+    pub seen: Seen,
+    pub sets: Sets,
+    /// Said first when something differs.
+    pub input: String,
+}
+
+fn told(answer: &sys::Answer) -> Answer {
+    match answer.kind {
+        sys::ACCEPTED => Answer::Accepted(answer.value),
+        sys::PLANNED => Answer::Planned(answer.value),
+        sys::ROUTED => Answer::Routed(answer.value),
+        sys::GRANTED => Answer::Granted,
+        sys::FINISHED => Answer::Finished,
+        sys::BUSY => Answer::Busy(answer.value),
+        sys::HELD => Answer::Held(answer.value),
+        sys::RESTARTED => Answer::Restarted,
+        _ => Answer::Refused(crate::reference::Refusal { number: answer.refusal, place: answer.value }),
+    }
+}
+
+/// The answer as the library has to lay it out, every field of it.
+pub fn laid_out(answer: Answer) -> sys::Answer {
+    let of = |kind, value| sys::Answer { kind, refusal: 0, value };
+    match answer {
+        Answer::Refused(refusal) => sys::Answer { kind: sys::REFUSED, refusal: refusal.number, value: refusal.place },
+        Answer::Accepted(grid) => of(sys::ACCEPTED, grid),
+        Answer::Planned(words) => of(sys::PLANNED, words),
+        Answer::Routed(length) => of(sys::ROUTED, length),
+        Answer::Granted => of(sys::GRANTED, 0),
+        Answer::Finished => of(sys::FINISHED, 0),
+        Answer::Busy(device) => of(sys::BUSY, device),
+        Answer::Held(rank) => of(sys::HELD, rank),
+        Answer::Restarted => of(sys::RESTARTED, 0),
+    }
+}
+
+pub fn record_of(record: sys::Record) -> Record {
+    Record { positions: record.positions, grants: record.grants }
+}
+
+pub fn lent_record(record: Record) -> sys::Record {
+    sys::Record { positions: record.positions, grants: record.grants }
+}
+
+fn hexadecimal(bytes: &[u8]) -> String {
+    bytes.iter().map(|byte| format!("{byte:02X}")).collect()
+}
+
+/// Everything that one call was made with, to tell of when something differs.
+struct Made<'a> {
+    call: Call,
+    words: &'a [u32],
+    beside: String,
+    map: Option<&'a [u8]>,
+}
+
+impl Checker {
+    pub fn new() -> Checker {
+        Checker { seen: Seen::default(), sets: Sets::default(), input: String::new() }
+    }
+
+    /// Tells the whole case and ends the run.
+    fn fail(&self, made: &Made, what: String) -> ! {
+        println!("DIFFERS: {} ({})", what, self.input);
+        println!("call: {}{}", CALLS[made.call as usize], made.beside);
+        let words: Vec<String> = made.words.iter().map(|word| format!("{word:08X}")).collect();
+        println!("words ({}): {}", words.len(), words.join(" "));
+        if let Some(map) = made.map {
+            println!("map lent ({} bytes): {}", map.len(), hexadecimal(map));
+        }
+        std::process::exit(1);
+    }
+
+    fn answers(&mut self, made: &Made, library: sys::Answer, reference: Answer) {
+        if library != laid_out(reference) {
+            self.fail(made, format!("the library answers {:?}, {:?}, the reference {:?}", told(&library), library, reference));
+        }
+        let call = made.call as usize;
+        self.seen.kinds[call][library.kind as usize] += 1;
+        self.seen.refusals[call][library.refusal as usize] += 1;
+    }
+
+    fn alike<T: Copy + PartialEq + Debug>(&self, made: &Made, name: &str, library: &Fenced<T>, reference: &Fenced<T>) {
+        if let Some((at, one, other)) = library.difference(reference) {
+            let len = library.read().len();
+            self.fail(made, format!("afterwards the {name} (of length {len}) has {one:X?} at {at}, and should have {other:X?}"));
+        }
+    }
+
+    pub fn read(&mut self, random: &mut Random, words: &[u32], worked: &Worked) {
+        let made = Made { call: Call::Read, words, beside: String::new(), map: None };
+        let set = Fenced::new(random, words.len(), |i| words.get(i).copied().unwrap_or(0x2000_0000));
+        let before = set.clone();
+        let lent = set.read();
+        let library = unsafe { sys::arbiter_read(lent.as_ptr(), lent.len()) };
+        self.answers(&made, library, worked.read());
+        self.alike(&made, "set", &set, &before);
+    }
+
+    pub fn analyse(&mut self, random: &mut Random, words: &[u32], worked: &Worked, map_len: usize, plan_len: usize) {
+        let made = Made { call: Call::Analyse, words, beside: format!(", map slice of {map_len}, plan slice of {plan_len}"), map: None };
+        let set = Fenced::new(random, words.len(), |i| words.get(i).copied().unwrap_or(0x2000_0000));
+        let before = set.clone();
+        // What stands in the slices before differs from place to place and from input to input.
+        let salt = random.next();
+        let mut map = Fenced::new(random, map_len, |i| (salt as u8).wrapping_add((i as u8).wrapping_mul(29)));
+        let mut plan = Fenced::new(random, plan_len, |i| (salt >> 16) as u32 ^ (i as u32).wrapping_mul(0x9E37_79B1));
+        let (mut other_map, mut other_plan) = (map.clone(), plan.clone());
+        let library = unsafe {
+            let (set, map, plan) = (set.read(), map.lent(), plan.lent());
+            sys::arbiter_analyse(set.as_ptr(), set.len(), map.as_mut_ptr(), map.len(), plan.as_mut_ptr(), plan.len())
+        };
+        let reference = worked.analyse(other_map.lent(), other_plan.lent());
+        self.answers(&made, library, reference);
+        self.alike(&made, "map slice", &map, &other_map);
+        self.alike(&made, "plan slice", &plan, &other_plan);
+        self.alike(&made, "set", &set, &before);
+    }
+
+    /// The record as it is afterwards comes back, so that a list of bids can go on from it.
+    pub fn bid(&mut self, random: &mut Random, words: &[u32], worked: &Worked, map: &[u8], record: Record, task: usize) -> Record {
+        let made = Made { call: Call::Bid, words, beside: format!(" of task {task} on {record:?}"), map: Some(map) };
+        let set = Fenced::new(random, words.len(), |i| words.get(i).copied().unwrap_or(0x2000_0000));
+        let lent_map = Fenced::new(random, map.len(), |i| map.get(i).copied().unwrap_or(0));
+        let (set_before, map_before) = (set.clone(), lent_map.clone());
+        let mut records = self.records(random, record);
+        let mut other = records.clone();
+        let library = unsafe {
+            let (set, map) = (set.read(), lent_map.read());
+            sys::arbiter_bid(&mut records.lent()[0], set.as_ptr(), set.len(), map.as_ptr(), map.len(), task)
+        };
+        let mut after = record;
+        let reference = worked.bid(map, &mut after, task);
+        other.lent()[0] = lent_record(after);
+        self.answers(&made, library, reference);
+        self.alike(&made, "record", &records, &other);
+        self.alike(&made, "set", &set, &set_before);
+        self.alike(&made, "map", &lent_map, &map_before);
+        record_of(records.read()[0])
+    }
+
+    pub fn again(&mut self, random: &mut Random, words: &[u32], worked: &Worked, record: Record) -> Record {
+        let made = Made { call: Call::Again, words, beside: format!(" on {record:?}"), map: None };
+        let set = Fenced::new(random, words.len(), |i| words.get(i).copied().unwrap_or(0x2000_0000));
+        let before = set.clone();
+        let mut records = self.records(random, record);
+        let mut other = records.clone();
+        let library = unsafe {
+            let set = set.read();
+            sys::arbiter_again(&mut records.lent()[0], set.as_ptr(), set.len())
+        };
+        let mut after = record;
+        let reference = worked.again(&mut after);
+        other.lent()[0] = lent_record(after);
+        self.answers(&made, library, reference);
+        self.alike(&made, "record", &records, &other);
+        self.alike(&made, "set", &set, &before);
+        record_of(records.read()[0])
+    }
+
+    pub fn route(&mut self, random: &mut Random, words: &[u32], worked: &Worked, map: &[u8], record: Record, route_len: usize) {
+        let made = Made { call: Call::Route, words, beside: format!(" from {record:?}, route slice of {route_len}"), map: Some(map) };
+        let set = Fenced::new(random, words.len(), |i| words.get(i).copied().unwrap_or(0x2000_0000));
+        let lent_map = Fenced::new(random, map.len(), |i| map.get(i).copied().unwrap_or(0));
+        let (set_before, map_before) = (set.clone(), lent_map.clone());
+        let salt = random.next() as u8;
+        let mut route = Fenced::new(random, route_len, |i| salt.wrapping_add((i as u8).wrapping_mul(29)));
+        let mut other = route.clone();
+        let library = unsafe {
+            let (set, map, route) = (set.read(), lent_map.read(), route.lent());
+            sys::arbiter_route(lent_record(record), set.as_ptr(), set.len(), map.as_ptr(), map.len(), route.as_mut_ptr(), route.len())
+        };
+        let reference = worked.route(map, &record, other.lent());
+        self.answers(&made, library, reference);
+        self.alike(&made, "route slice", &route, &other);
+        self.alike(&made, "set", &set, &set_before);
+        self.alike(&made, "map", &lent_map, &map_before);
+    }
+
+    /// A record between fences of other records.
+    fn records(&self, random: &mut Random, record: Record) -> Fenced<sys::Record> {
+        Fenced::new(random, 1, |i| if i == 0 { lent_record(record) } else { sys::Record { positions: [0xA5; 8], grants: 0x5A5A_5A5A } })
+    }
+}

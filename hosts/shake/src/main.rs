@@ -1,0 +1,193 @@
+//! Shakes the library: random, damaged and senseless inputs through every call, each answer and every byte afterwards held to `reference`.
+//!
+//!     shake [INPUTS [SEED]]        so many lists of words, several calls with each; then 100 times as many bids on one record, at most 10 million
+//!     shake replay SEED INPUT      one input of a run again, alone
+//!
+//! It ends with status 1 at the first difference, which it prints with all that the call was made with, and also if some answer never came.
+
+mod cases;
+mod checker;
+mod fenced;
+mod long_run;
+mod random;
+mod reference;
+
+use checker::{Checker, Seen, CALLS};
+use random::Random;
+use reference::{Record, Set, Worked};
+
+const INPUTS: u64 = 250_000;
+const MOST_BIDS: u64 = 10_000_000;
+const SEED: u64 = 0x7469_726C_757A_6B61;
+
+/// The analysis needs some 300 KiB; a call that took much more would end this thread.
+const STACK: usize = 1 << 20;
+
+fn main() {
+    let arguments: Vec<String> = std::env::args().skip(1).collect();
+    let number = |at: usize, otherwise: u64| -> u64 {
+        match arguments.get(at) {
+            None => otherwise,
+            Some(text) => text.parse().unwrap_or_else(|_| {
+                eprintln!("usage: shake [INPUTS [SEED]], or shake replay SEED INPUT");
+                std::process::exit(2);
+            }),
+        }
+    };
+    let replay = arguments.first().is_some_and(|word| word == "replay");
+    let (first, last, seed) = if replay { (number(2, 0), number(2, 0) + 1, number(1, SEED)) } else { (0, number(0, INPUTS), number(1, SEED)) };
+    let thread = std::thread::Builder::new().stack_size(STACK).spawn(move || {
+        let mut checker = Checker::new();
+        for input in first..last {
+            shake(&mut checker, seed, input);
+        }
+        if replay {
+            println!("shake: input {first} of seed {seed}, {} calls agree", calls(&checker.seen));
+            return;
+        }
+        print_table(&checker.seen);
+        println!("{}", checker.sets);
+        let long = service(seed, (100 * last).min(MOST_BIDS), 0);
+        // A record that is next to the wrap from the start.
+        let wrapped = service(seed + 1, 1000, 0xFFFF_FFF0);
+        if wrapped == 0 {
+            println!("FAIL: the grant number never went from 4,294,967,295 to 0");
+            std::process::exit(1);
+        }
+        all_seen(&checker.seen);
+        println!("shake: {last} inputs, seed {seed}, {} calls and {long} bids on one record agree", calls(&checker.seen));
+    });
+    if thread.unwrap().join().is_err() {
+        std::process::exit(1);
+    }
+}
+
+/// All calls for one input.
+fn shake(checker: &mut Checker, seed: u64, input: u64) {
+    let mut random = Random::new(seed, input);
+    let random = &mut random;
+    let words = cases::words(random, input);
+    let worked = Worked::new(&words);
+    checker.input = format!("to see it again: shake replay {seed} {input}");
+    checker.read(random, &words, &worked);
+    match &worked.set {
+        Err(_) => refused(checker, random, &words, &worked),
+        Ok(set) => {
+            checker.sets.count(&words, &worked);
+            analyses(checker, random, &words, &worked);
+            bids(checker, random, &words, &worked, set);
+            for _ in 0..3 {
+                let map = cases::lent_map(random, &worked.map);
+                let record = cases::record(random, set, &map);
+                let task = cases::unfinished_task(random, set, &record);
+                checker.bid(random, &words, &worked, &map, record, task);
+                let left: usize = (0..set.tasks.len()).map(|task| set.length(task).saturating_sub(record.positions[task] as usize)).sum();
+                let room = cases::length(random, left);
+                checker.route(random, &words, &worked, &map, record, room);
+            }
+            let record = cases::record(random, set, &worked.map);
+            checker.again(random, &words, &worked, record);
+        }
+    }
+}
+
+/// A refused list must be refused by every call, whatever is lent beside it.
+fn refused(checker: &mut Checker, random: &mut Random, words: &[u32], worked: &Worked) {
+    let (map_len, plan_len) = (random.below(300), random.below(100));
+    checker.analyse(random, words, worked, map_len, plan_len);
+    let map: Vec<u8> = (0..random.below(50)).map(|_| random.below(5) as u8).collect();
+    let record = cases::any_record(random);
+    let task = cases::task(random, 8);
+    checker.bid(random, words, worked, &map, record, task);
+    checker.again(random, words, worked, record);
+    let room = random.below(40);
+    checker.route(random, words, worked, &map, record, room);
+}
+
+/// Slices that fit exactly, and some of any length.
+fn analyses(checker: &mut Checker, random: &mut Random, words: &[u32], worked: &Worked) {
+    let (grid, plan) = (worked.map.len(), worked.plan.len());
+    checker.analyse(random, words, worked, grid, plan);
+    checker.analyse(random, words, worked, grid, plan - 1);
+    let (map_len, plan_len) = (cases::length(random, grid), cases::length(random, plan));
+    checker.analyse(random, words, worked, map_len, plan_len);
+    if random.one_in(50) {
+        checker.analyse(random, words, worked, 65536, plan + 1000);
+    }
+}
+
+/// Bids from a fresh record with the set's own map, to the end and once again if they get there.
+fn bids(checker: &mut Checker, random: &mut Random, words: &[u32], worked: &Worked, set: &Set) {
+    let mut record = Record { positions: [0; 8], grants: 0 };
+    let actions: usize = (0..set.tasks.len()).map(|task| set.length(task)).sum();
+    // As many as may well reach the end on a small set, and a few on a large one.
+    let count = if random.one_in(8) { (4 * actions + 4).min(120) } else { random.between(1, 6) };
+    for _ in 0..count {
+        if record.positions == set.end() && random.one_in(2) {
+            record = checker.again(random, words, worked, record);
+        }
+        let task = cases::task(random, set.tasks.len());
+        record = checker.bid(random, words, worked, &worked.map, record, task);
+    }
+}
+
+/// The bids on one record; how often its grant number passed 4,294,967,295, or the number of bids where that can't come.
+fn service(seed: u64, bids: u64, first_grants: u32) -> u64 {
+    match long_run::run(seed, bids, first_grants) {
+        Err(what) => {
+            println!("DIFFERS: {what}");
+            std::process::exit(1);
+        }
+        Ok(done) => {
+            println!(
+                "one record from grant number {first_grants}: {} bids, {} of them granted, {} agains, {} times past 4,294,967,295",
+                done.bids, done.grants, done.agains, done.wraps
+            );
+            if first_grants == 0 { done.bids } else { done.wraps }
+        }
+    }
+}
+
+fn calls(seen: &Seen) -> u64 {
+    seen.kinds.iter().flatten().sum()
+}
+
+const KINDS: [&str; 9] = ["refused", "accepted", "planned", "routed", "granted", "finished", "busy", "held", "restarted"];
+
+fn print_table(seen: &Seen) {
+    let line = |name: &str, counts: [u64; 5]| {
+        let cells: Vec<String> = counts.iter().map(|count| format!("{count:>9}")).collect();
+        println!("{name:<12}{}", cells.join(""));
+    };
+    println!("{:<12}{}", "answer", CALLS.map(|call| format!("{call:>9}")).join(""));
+    for (kind, name) in KINDS.iter().enumerate() {
+        line(name, std::array::from_fn(|call| seen.kinds[call][kind]));
+    }
+    for number in 1..22 {
+        line(&format!("refused {number}"), std::array::from_fn(|call| seen.refusals[call][number]));
+    }
+}
+
+/// Every answer that the paper gives a call must have come, or the run shows less than it says. 15 is the printer's alone.
+fn all_seen(seen: &Seen) {
+    let set: Vec<usize> = (1..=12).collect();
+    let expected: [(&[usize], &[usize]); 5] =
+        [(&[1], &[]), (&[2], &[13, 14]), (&[4, 5, 6, 7], &[13, 16, 17, 18]), (&[8], &[16, 19]), (&[3], &[13, 16, 18, 20, 21])];
+    let mut missing = Vec::new();
+    for (call, (kinds, refusals)) in expected.iter().enumerate() {
+        for &kind in kinds.iter() {
+            if seen.kinds[call][kind] == 0 {
+                missing.push(format!("{} {}", CALLS[call], KINDS[kind]));
+            }
+        }
+        for &number in set.iter().chain(refusals.iter()) {
+            if seen.refusals[call][number] == 0 {
+                missing.push(format!("{} refused {}", CALLS[call], number));
+            }
+        }
+    }
+    if !missing.is_empty() {
+        println!("FAIL: too few inputs, never seen: {}", missing.join(", "));
+        std::process::exit(1);
+    }
+}

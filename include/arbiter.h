@@ -1,0 +1,186 @@
+/* The console arbiter for hosts in C and C++: the calls of libarbiter.a.
+ *
+ * A set is a list of 32-bit words that says which devices there are and in which order each task claims and releases them
+ * (docs/AUTHORS.md). arbiter_analyse writes its map, a byte for each state of progress, and its plan, a list of boxes. In service
+ * arbiter_bid is asked before every step of a task and says whether it may be made now. docs/HOSTS.md tells the whole life of a set.
+ *
+ * What every call does and asks:
+ * - It uses no heap, no global state, no signal and no callback, and always returns. arbiter_analyse needs some 300 KiB of stack, the others
+ *   very little.
+ * - No content of a slice or record is undefined input: what a call finds wrong comes back as a refusal.
+ * - Every pointer is non-null, also where its length is 0, and aligned for its type; its length counts elements, not bytes.
+ * - Memory that a call writes overlaps no other memory lent to the same call, and nobody else uses it meanwhile.
+ * - Nothing lent is kept after the call returns.
+ *
+ * Constants have the names of the proved source with ARBITER_ before them; hosts/constants.py compares them.
+ * For x86-64 with the System V calling convention (Linux and its kin). C99 or later, C++98 or later.
+ */
+#ifndef ARBITER_H
+#define ARBITER_H
+
+#include <stddef.h>
+#include <stdint.h>
+
+/* The limits of a set. */
+#define ARBITER_MAX_WORDS 4096
+#define ARBITER_MAX_DEVICES 16
+#define ARBITER_MAX_CAPACITY 8
+#define ARBITER_MAX_TASKS 8     /* also the number of positions in a record */
+#define ARBITER_MAX_ACTIONS 255 /* claims and releases of one task */
+#define ARBITER_MAX_GRID 65536  /* states: a map slice of this many bytes fits every set */
+
+/* A word is its kind times this, plus its field: word / ARBITER_FIELDS is the kind, word % ARBITER_FIELDS the field. */
+#define ARBITER_FIELDS 0x10000000
+
+/* The kinds of a set's words; a plan ends with END too. */
+#define ARBITER_DEVICE 1  /* field: how many tasks may hold it at once, 1 to 8 */
+#define ARBITER_TASK 2    /* field: 0 */
+#define ARBITER_CLAIM 3   /* field: the device */
+#define ARBITER_RELEASE 4 /* field: the device */
+#define ARBITER_END 5     /* field: the number of words before it */
+
+/* The kinds of a plan's words. */
+#define ARBITER_FORBIDDEN_BOX 6 /* field: the device that would have too many holders; a SIDE for each task follows */
+#define ARBITER_UNSAFE_BOX 7    /* field: 0; a SIDE for each task follows */
+#define ARBITER_SIDE 8          /* field: bits 23 to 16 the task, 15 to 8 its lowest, 7 to 0 its highest position in the box */
+#define ARBITER_DEAD_STATE 9    /* field: the state's rank */
+
+/* The map's bytes. */
+#define ARBITER_OPEN 0      /* the end can be reached from this state */
+#define ARBITER_FORBIDDEN 1 /* some device would have too many holders */
+#define ARBITER_UNSAFE 2    /* no steps lead from here to the end */
+#define ARBITER_DEAD 3      /* unsafe, and no task can make a step */
+
+/* What a refused route leaves in every byte of its slice. */
+#define ARBITER_NO_STEP 255
+
+/* The kinds of an answer. An answer that is all zeros is a refusal, so that one never filled in can't pass for a grant. */
+#define ARBITER_REFUSED 0   /* the call was turned back; refusal: why; value: the place, see the refusals */
+#define ARBITER_ACCEPTED 1  /* arbiter_read: the set is well formed; value: its number of states, the map's length */
+#define ARBITER_PLANNED 2   /* arbiter_analyse: map and plan are written; value: the number of plan words */
+#define ARBITER_ROUTED 3    /* arbiter_route: the route is written; value: its length */
+#define ARBITER_GRANTED 4   /* arbiter_bid: the task makes its next action now; the record has moved on by it */
+#define ARBITER_FINISHED 5  /* arbiter_bid: the task has no action left; don't ask for it before arbiter_again */
+#define ARBITER_BUSY 6      /* arbiter_bid: the task waits and asks again later; value: the device that is in use */
+#define ARBITER_HELD 7      /* arbiter_bid: the task waits and asks again later, or tasks would wait for ever; value: the unsafe state's rank */
+#define ARBITER_RESTARTED 8 /* arbiter_again: every task is at its start again */
+
+/* The refusals of a set. The place is the faulty word's index, counted from 0, unless said otherwise.
+ * All are the set's fault, and each comes in the same way from every call that is lent that set: return it to its author. */
+#define ARBITER_NO_WORDS 1            /* place: 0 */
+#define ARBITER_TOO_MANY_WORDS 2      /* place: 4,096 */
+#define ARBITER_WORD_AFTER_END 3
+#define ARBITER_UNKNOWN_KIND 4
+#define ARBITER_OUT_OF_ORDER 5        /* a DEVICE after a TASK; a CLAIM, RELEASE or END before any */
+#define ARBITER_FIELD_NOT_ALLOWED 6
+#define ARBITER_TOO_MANY 7            /* the 17th device, 9th task, or 256th action of a task */
+#define ARBITER_CLAIM_OF_HELD 8
+#define ARBITER_RELEASE_OF_NOT_HELD 9
+#define ARBITER_STILL_HELD 10         /* a task closes, at the next TASK or at END, while it holds something */
+#define ARBITER_NO_END 11             /* place: the number of words */
+#define ARBITER_GRID_TOO_LARGE 12     /* place: END's index */
+
+/* The refusals of lent slices, input bytes, records and calls. */
+#define ARBITER_MAP_TOO_SHORT 13   /* place: the length that the map needs; lend that much */
+#define ARBITER_PLAN_TOO_SHORT 14  /* place: the plan slice's length; the map is finished all the same: lend a longer slice, or do without the plan */
+#define ARBITER_BYTES_NOT_WORDS 15 /* place: the number of whole words; for whoever reads a set from bytes, no call of the library answers it */
+#define ARBITER_BAD_RECORD 16      /* place: 0; the record isn't one that a service of this set and map leaves: stop, see who wrote it */
+#define ARBITER_NO_SUCH_TASK 17    /* place: the number asked for; the host's slip */
+#define ARBITER_BAD_MAP_BYTE 18    /* place: the state's rank; the map is damaged or another set's: stop, analyse the set anew */
+#define ARBITER_NOT_AT_END 19      /* place: the state's rank; some task isn't finished: bid on */
+#define ARBITER_NO_ROUTE 20        /* place: the state's rank; the state is unsafe: no record in service ever is */
+#define ARBITER_ROUTE_TOO_SHORT 21 /* place: the length that the route needs; lend that much */
+
+/* What a call answers. refusal is 0 exactly where kind is not ARBITER_REFUSED. value is what the kind says, and 0 where it says nothing. */
+typedef struct {
+    uint32_t kind;
+    uint32_t refusal;
+    uint64_t value;
+} arbiter_answer;
+
+/* The broker's record: for each task how many of its actions are done, 0 for tasks that the set doesn't have; and the number of
+ * grants so far, which goes from 4,294,967,295 to 0. Start from arbiter_fresh, and let nobody but the calls write it. */
+typedef struct {
+    uint8_t positions[ARBITER_MAX_TASKS];
+    uint32_t grants;
+} arbiter_record;
+
+/* The compiler must lay both out as the library does. */
+#if defined(__cplusplus) && __cplusplus >= 201103L
+#define ARBITER_ASSERT(name, condition) static_assert(condition, #name)
+#elif !defined(__cplusplus) && defined(__STDC_VERSION__) && __STDC_VERSION__ >= 201112L
+#define ARBITER_ASSERT(name, condition) _Static_assert(condition, #name)
+#else
+#define ARBITER_ASSERT(name, condition) typedef char arbiter_assert_##name[(condition) ? 1 : -1]
+#endif
+ARBITER_ASSERT(size_of_answer, sizeof(arbiter_answer) == 16);
+ARBITER_ASSERT(place_of_kind, offsetof(arbiter_answer, kind) == 0);
+ARBITER_ASSERT(place_of_refusal, offsetof(arbiter_answer, refusal) == 4);
+ARBITER_ASSERT(place_of_value, offsetof(arbiter_answer, value) == 8);
+ARBITER_ASSERT(size_of_record, sizeof(arbiter_record) == 12);
+ARBITER_ASSERT(place_of_positions, offsetof(arbiter_record, positions) == 0);
+ARBITER_ASSERT(place_of_grants, offsetof(arbiter_record, grants) == 8);
+ARBITER_ASSERT(size_of_length, sizeof(size_t) == 8);
+#undef ARBITER_ASSERT
+
+#ifdef __cplusplus
+extern "C" {
+#endif
+
+/* Reads a set. ACCEPTED with its number of states, or REFUSED 1 to 12. */
+arbiter_answer arbiter_read(const uint32_t *set, size_t set_len);
+
+/* Analyses a set. PLANNED with the number of plan words, or REFUSED 1 to 14.
+ * Accepted: map[0] to map[states - 1] and the plan's words are written; what lies beyond stays as it was.
+ * 1 to 13 leave both slices untouched; 14 leaves the finished map, and zeros in the whole plan slice. */
+arbiter_answer arbiter_analyse(const uint32_t *set, size_t set_len, uint8_t *map, size_t map_len, uint32_t *plan, size_t plan_len);
+
+/* A record at the start of every task, with no grants: all zeros. */
+arbiter_record arbiter_fresh(void);
+
+/* May this task make its next action? GRANTED (the record then counts it as made), FINISHED, BUSY with the device, HELD with the next
+ * state's rank, or REFUSED 1 to 13, 16, 17 or 18. Only GRANTED changes the record. */
+arbiter_answer arbiter_bid(arbiter_record *record, const uint32_t *set, size_t set_len, const uint8_t *map, size_t map_len, size_t task);
+
+/* Starts every task anew once all are finished; the grant number stays. RESTARTED, or REFUSED 1 to 12, 16 or 19, which changes nothing. */
+arbiter_answer arbiter_again(arbiter_record *record, const uint32_t *set, size_t set_len);
+
+/* The steps from the record's state to the end, one byte a step: always the lowest task that can go on. ROUTED with their number, or
+ * REFUSED 1 to 13, 16, 18, 20 or 21. A route slice of set_len bytes is always long enough. The bytes beyond the route stay as they were;
+ * a refusal fills the whole slice with ARBITER_NO_STEP. */
+arbiter_answer arbiter_route(arbiter_record record, const uint32_t *set, size_t set_len, const uint8_t *map, size_t map_len, uint8_t *route,
+                             size_t route_len);
+
+#ifdef __cplusplus
+}
+#endif
+
+/* What a refusal means, as a sentence for the author of the set or the reader of a log. */
+static inline const char *arbiter_refusal_text(uint32_t refusal) {
+    switch (refusal) {
+    case ARBITER_NO_WORDS: return "the set is empty";
+    case ARBITER_TOO_MANY_WORDS: return "the set has over 4,096 words";
+    case ARBITER_WORD_AFTER_END: return "a word follows END, which must be the last";
+    case ARBITER_UNKNOWN_KIND: return "this word is no DEVICE, TASK, CLAIM, RELEASE or END: its kind isn't 1 to 5";
+    case ARBITER_OUT_OF_ORDER: return "this word is out of order: devices come first, and a TASK before any CLAIM, RELEASE or END";
+    case ARBITER_FIELD_NOT_ALLOWED: return "the field isn't allowed: a capacity is 1 to 8, TASK has 0, an action names a declared device, END counts the words before it";
+    case ARBITER_TOO_MANY: return "this is one too many: a set has at most 16 devices and 8 tasks, a task at most 255 claims and releases";
+    case ARBITER_CLAIM_OF_HELD: return "the task claims a device that it holds already";
+    case ARBITER_RELEASE_OF_NOT_HELD: return "the task releases a device that it doesn't hold";
+    case ARBITER_STILL_HELD: return "a task ends here while it still holds a device";
+    case ARBITER_NO_END: return "END is missing: it must be the last word";
+    case ARBITER_GRID_TOO_LARGE: return "the tasks have over 65,536 states together: fewer or shorter tasks are needed";
+    case ARBITER_MAP_TOO_SHORT: return "the map slice is shorter than the set's number of states";
+    case ARBITER_PLAN_TOO_SHORT: return "the plan has more words than its slice";
+    case ARBITER_BYTES_NOT_WORDS: return "the number of bytes isn't a multiple of 4: the file was cut, or isn't a set";
+    case ARBITER_BAD_RECORD: return "the record doesn't fit the set and its map: it was damaged, or is another set's";
+    case ARBITER_NO_SUCH_TASK: return "the set has no task of this number";
+    case ARBITER_BAD_MAP_BYTE: return "the map isn't the one made for this set: it was damaged, or is another set's";
+    case ARBITER_NOT_AT_END: return "not every task is finished";
+    case ARBITER_NO_ROUTE: return "no steps lead from this state to the end";
+    case ARBITER_ROUTE_TOO_SHORT: return "the route has more steps than its slice has bytes";
+    default: return "no refusal has this number";
+    }
+}
+
+#endif
