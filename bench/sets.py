@@ -1,5 +1,5 @@
 #!/usr/bin/env python3
-"""sets.py DIR: writes the sets that the benchmark runs on, four bytes a word, lowest first."""
+"""sets.py DIR: writes the sets that the benchmark runs on, four bytes a word, lowest first: DIR/NAME.set for the table, DIR/growth/FAMILY-SIZE.set for growth."""
 import os
 import struct
 import sys
@@ -26,24 +26,89 @@ def pairs(n, actions):
     return [a for _ in range(n) for a in actions]
 
 
+# --- Families: capacities and tasks for a size n ---
+
+
+def philosophers(n):
+    """A ring of n philosophers: 5 to the n states, one of them dead."""
+    return [1] * n, [[claim(i), claim((i + 1) % n), release(i), release((i + 1) % n)] for i in range(n)]
+
+
+def one_device(n):
+    """Two tasks of n claims and releases of one device: n * n forbidden boxes."""
+    one = pairs(n, [claim(0), release(0)])
+    return [1], [one, one]
+
+
+def crossings(n):
+    """Two tasks that cross n times each: n * n unsafe boxes."""
+    return [1, 1], [pairs(n, [claim(0), claim(1), release(1), release(0)]), pairs(n, [claim(1), claim(0), release(0), release(1)])]
+
+
+def great_box(n):
+    """Two tasks that hold one device each while they claim and release their own n times, and then want the other's: one unsafe box of (2n + 1) squared states."""
+    return [1] * 4, [
+        [claim(0)] + pairs(n, [claim(2), release(2)]) + [claim(1), release(1), release(0)],
+        [claim(1)] + pairs(n, [claim(3), release(3)]) + [claim(0), release(0), release(1)],
+    ]
+
+
+def hand_over_hand(n, first, second, others):
+    """n holds of two devices in turn, the next claimed before the last is released; during the last hold the others are claimed too."""
+    chain = [claim(first)]
+    for i in range(n - 1):
+        here, there = (first, second) if i % 2 == 0 else (second, first)
+        chain += [claim(there), release(here)]
+    last = first if n % 2 == 1 else second
+    return chain + [claim(d) for d in others] + [release(d) for d in others] + [release(last)]
+
+
+def fine_tiles(n):
+    """Each task goes hand over hand through two devices, and claims the other task's two while it still holds its own: 2n forbidden boxes, one a hold, and some
+    n * n unsafe ones of one to four states."""
+    return [1] * 4, [hand_over_hand(n, 0, 1, [3, 2]), hand_over_hand(n, 2, 3, [0, 1])]
+
+
+def apart(n):
+    """Two tasks of n claims and releases of a device of their own: every state is open, and the plan is one word."""
+    return [1, 1], [pairs(n, [claim(0), release(0)]), pairs(n, [claim(1), release(1)])]
+
+
+os.makedirs(os.path.join(sys.argv[1], "growth"), exist_ok=True)
+
+# --- The table ---
+
 # Example a of document 01.
 save("a", [1, 1], [[claim(0), claim(1), release(1), release(0)], [claim(1), claim(0), release(0), release(1)]])
-# Six philosophers: 15,625 states.
-save("philosophers6", [1] * 6, [[claim(i), claim((i + 1) % 6), release(i), release((i + 1) % 6)] for i in range(6)])
-# Two tasks of 127 claims and releases of one device: 16,129 forbidden boxes, the most there are.
-one = pairs(127, [claim(0), release(0)])
-save("one_device", [1], [one, one])
-save("one_device_idle", [1], [[]] * 3 + [one, one] + [[]] * 3)
-# 63 crossings in each task: 3,969 unsafe boxes.
-there = pairs(63, [claim(0), claim(1), release(1), release(0)])
-back = pairs(63, [claim(1), claim(0), release(0), release(1)])
-save("crossings", [1, 1], [there, back])
-save("crossings_idle", [1, 1], [there] + [[]] * 6 + [back])
-# One great unsafe box of 63,001 states.
-save("great_box", [1] * 4, [
-    [claim(0)] + pairs(125, [claim(2), release(2)]) + [claim(1), release(1), release(0)],
-    [claim(1)] + pairs(125, [claim(3), release(3)]) + [claim(0), release(0), release(1)],
-])
+# 15,625 states.
+save("philosophers6", *philosophers(6))
+# 16,129 forbidden boxes, the most there are.
+save("one_device", *one_device(127))
+capacities, (one, other) = one_device(127)
+save("one_device_idle", capacities, [[]] * 3 + [one, other] + [[]] * 3)
+# 3,969 unsafe boxes.
+save("crossings", *crossings(63))
+capacities, (there, back) = crossings(63)
+save("crossings_idle", capacities, [there] + [[]] * 6 + [back])
+# One unsafe box of 63,001 states.
+save("great_box", *great_box(125))
+# 250 forbidden boxes and 15,749 unsafe ones.
+save("fine_tiles", *fine_tiles(125))
+# As many words as an accepted list can have, 533: 16 devices, eight tasks, two of them of 254 actions.
+save("longest_accepted", [1] * 16, [[]] * 3 + [[a for i in range(127) for a in (claim(d + i % 8), release(d + i % 8))] for d in (0, 8)] + [[]] * 3)
 # As many words as a list can have before its grid is looked at: 16 devices and eight tasks of 254 actions, 2,057 words, refused with 12. It is read and no more,
 # which is nearly all that a bid costs.
 save("longest", [1] * 16, [pairs(127, [claim(d), release(d)]) for d in range(8)])
+
+# --- Growth: each family from a few states to nearly as many as there can be ---
+
+for family, sizes in [
+    (apart, [4, 8, 16, 32, 64, 127]),
+    (one_device, [4, 8, 16, 32, 64, 127]),
+    (crossings, [4, 6, 8, 12, 16, 24, 32, 45, 63]),
+    (great_box, [4, 8, 16, 32, 64, 125]),
+    (fine_tiles, [4, 8, 16, 32, 64, 125]),
+    (philosophers, [2, 3, 4, 5, 6]),
+]:
+    for n in sizes:
+        save("growth/%s-%03d" % (family.__name__, n), *family(n))
