@@ -8,7 +8,8 @@ ghost use Rattle.arbiter.specs.Told.{told};
 use analysis::Outcome;
 use route::RouteAnswer;
 
-// The kinds of an answer, with what its value is. A zeroed answer is a refusal, so a host that asked nothing is granted nothing.
+// The kinds of an answer. A zeroed answer is a refusal, so a host that asked nothing is granted nothing. The value is a refusal's place, the grid of a set that is
+// read, the number of plan words, the number of a route's steps, the busy device or the rank of a state held back from; the other kinds have none.
 pub const REFUSED: u32 = 0;
 
 pub const ACCEPTED: u32 = 1;

@@ -15,7 +15,7 @@ ghost use Rattle.forbidden_boxes.specs.Choices.{deviceWords};
 use plan_words::Placed;
 
 // The first word of a forbidden box is this and its device.
-const FORBIDDEN_WORD: u32 = 0x6000_0000;
+const FORBIDDEN_WORD: u32 = model::FORBIDDEN_BOX * model::FIELDS;
 
 // The boxes of one device: none where no more tasks claim it than its capacity.
 fn device_boxes(

@@ -84,12 +84,11 @@ fn hold_boxes(
     requires { ⌜ count ≤ 127 ⌝ }
     ensures { λ r. ⌜ Wrote (now (plan .entry)) at (holdWords (now (rows .entry)) header tasks task sides count) r (now (plan .exit)) ⌝ }
 {
-    let mut next = sides;
     let mut to = at;
     let mut i = 0;
     while i < count {
-        next[task] = rows[task * ROW + i];
-        match plan_words::emit(plan, to, header, next, tasks) {
+        let side = rows[task * ROW + i];
+        match plan_words::emit(plan, to, header, sides, tasks, task, side) {
             Placed::Next(p) => {
                 to = p;
             }

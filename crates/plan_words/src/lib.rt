@@ -2,12 +2,14 @@
 ghost use mathlib.Core.Path.{_≡_};
 ghost use mathlib.Core.List.{[], _∷_};
 ghost use Prim.Native.Nat.{_≤_, _<_};
-ghost use lib.ListN.{length, take};
+ghost use mathlib.Core.Bool.{cond};
+ghost use lib.ListN.{length, take, set};
+ghost use lib.Dec.{eqb};
 ghost use Rattle.model.specs.Plan.{sideWord};
 ghost use Rattle.plan_words.specs.Words.{Wrote};
 
 // A word is its kind's number and a field; a side's field is its task, lowest and highest position.
-const SIDE_WORD: u32 = 0x8000_0000;
+const SIDE_WORD: u32 = model::SIDE * model::FIELDS;
 
 const TASK_UNIT: u32 = 65536;
 
@@ -39,11 +41,28 @@ pub fn put(plan: &mut [u32], at: usize, word: u32) -> Placed
     Placed::Next(at + 1)
 }
 
-// One box: its header, and the words of its first `count` sides. Where they don't fit nothing is written.
-pub fn emit(plan: &mut [u32], at: usize, header: u32, sides: [u32; 8], count: usize) -> Placed
+// The word of task j in a box where that of one task is given.
+fn side_of(j: usize, task: usize, word: u32, side: u32) -> u32
+    ensures { λ r. ⌜ r ≡ cond (eqb j task) word side ⌝ }
+{
+    if j == task { word } else { side }
+}
+
+// One box: its header, and the words of its first `count` sides, that of `task` in the place of the one among them. It is not stored there first, since to
+// copy what was stored just before makes the processor wait. Where they don't fit nothing is written.
+pub fn emit(
+    plan: &mut [u32],
+    at: usize,
+    header: u32,
+    sides: [u32; 8],
+    count: usize,
+    task: usize,
+    word: u32,
+) -> Placed
     requires { ⌜ at ≤ length (now plan) ⌝ }
     requires { ⌜ count ≤ 8 ⌝ }
-    ensures { λ r. ⌜ Wrote (now (plan .entry)) at (header ∷ take count sides) r (now (plan .exit)) ⌝ }
+    requires { ⌜ task < count ⌝ }
+    ensures { λ r. ⌜ Wrote (now (plan .entry)) at (header ∷ take count (set sides task word)) r (now (plan .exit)) ⌝ }
 {
     if plan.len() - at < count + 1 {
         return Placed::Full;
@@ -51,7 +70,7 @@ pub fn emit(plan: &mut [u32], at: usize, header: u32, sides: [u32; 8], count: us
     plan[at] = header;
     let mut j = 0;
     while j < count {
-        plan[at + 1 + j] = sides[j];
+        plan[at + 1 + j] = side_of(j, task, word, sides[j]);
         j += 1;
     }
     Placed::Next(at + 1 + count)

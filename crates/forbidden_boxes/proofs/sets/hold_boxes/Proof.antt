@@ -1,10 +1,9 @@
 use Prim.Native.Nat.{ℕ, _+_, _*_, _-_}
 use native.Mathlib.Nat.{sub-zero}
 use native.Mathlib.Omega.{arith}
-use mathlib.Core.Path.{_≡_, refl, _∙_}
+use mathlib.Core.Path.{_∙_}
 use mathlib.Core.List.{List, _∷_}
-use lib.ListN.{length, take, set, length-set}
-use lib.Seq.{set-set}
+use lib.ListN.{take, set}
 use Rattle.model.specs.Set.{at}
 use Rattle.plan_words.proofs.Write.{read-next, read-full}
 use Rattle.plan_words.proofs.Run.{Turn, begins, stored, overflows, ends}
@@ -16,43 +15,33 @@ use Rattle.forbidden_boxes.proofs.sets.hold_boxes.Tie as tie
 abbrev boxAt : List ℕ → ℕ → ℕ → ℕ → List ℕ → ℕ → List ℕ
 boxAt rows header n t sides i = header ∷ take n (set sides t (at rows (t * 128 + i)))
 
--- of the sides only the task's own changes
 abbrev Inv-loop : tie.InvT-loop
-Inv-loop plan₀ at rows count header tasks task next₀ to₀ i₀ plan next to i =
-    Turn (boxAt rows header tasks task next₀) plan₀ at count plan to i × (length next ≡ 8) × ((v : ℕ) → set next task v ≡ set next₀ task v)
+Inv-loop plan₀ at rows count header tasks task sides to₀ i₀ plan to i =
+    Turn (boxAt rows header tasks task sides) plan₀ at count plan to i
 
 abbrev μ-loop : tie.MeasureT-loop
-μ-loop plan₀ at rows count header tasks task next₀ to₀ i₀ plan next to i = count - i
+μ-loop plan₀ at rows count header tasks task sides to₀ i₀ plan to i = count - i
 
 loop-holds : tie.Need-loop-holds Inv-loop μ-loop
 loop-holds c =
     let s = c .before .before in
-    let a = s .args in (
-      begins (boxAt (a .rows .now) (a .header) (a .tasks) (a .task) (a .sides)) (a .plan .now) (a .at) (a .count) (omega arith),
-      s .good .1 .1 .1 .1 .1 .1 .1 .0 .1 .0 .1,
-      λ v. refl,
-    )
+    let a = s .args in
+    begins (boxAt (a .rows .now) (a .header) (a .tasks) (a .task) (a .sides)) (a .plan .now) (a .at) (a .count) (omega arith)
 
-mul-next : tie.Need-mul-next Inv-loop μ-loop
-mul-next c = omega arith
+mul-side : tie.Need-mul-side Inv-loop μ-loop
+mul-side c = omega arith
 
-add-next : tie.Need-add-next Inv-loop μ-loop
-add-next c = omega arith
+add-side : tie.Need-add-side Inv-loop μ-loop
+add-side c = omega arith
 
-mul-next-2 : tie.Need-mul-next-2 Inv-loop μ-loop
-mul-next-2 c = omega arith
+mul-side-2 : tie.Need-mul-side-2 Inv-loop μ-loop
+mul-side-2 c = omega arith
 
-shared-slice-read-next : tie.Need-shared-slice-read-next Inv-loop μ-loop
-shared-slice-read-next c = omega arith
-
-mul-next-3 : tie.Need-mul-next-3 Inv-loop μ-loop
-mul-next-3 c = omega arith
-
-array-write-next : tie.Need-array-write-next Inv-loop μ-loop
-array-write-next c = omega arith
+shared-slice-read-side : tie.Need-shared-slice-read-side Inv-loop μ-loop
+shared-slice-read-side c = omega arith
 
 emit-requires : tie.Need-emit-requires Inv-loop μ-loop
-emit-requires c κs = (omega arith, omega arith)
+emit-requires c κs = (omega arith, (omega arith, omega arith))
 
 enum-known-p : tie.Need-enum-known-p Inv-loop μ-loop
 enum-known-p c = c .match .keys1
@@ -61,7 +50,7 @@ enum-told : tie.Need-enum-told Inv-loop μ-loop
 enum-told c = c .match .keys2
 
 same-length : tie.Need-same-length Inv-loop μ-loop
-same-length c = c .before .before .before .before .emit .kept .0 ∙ c .before .before .before .before .before .before .before .before .loop .inv .0 .same
+same-length c = c .before .before .before .before .emit .kept .0 ∙ c .before .before .before .before .before .before .before .before .loop .inv .same
 
 returns : tie.Need-returns Inv-loop μ-loop
 unfolding holdWords
@@ -69,9 +58,9 @@ returns c =
     let b = c .before .before .before .before in
     let o = b .before .before .before .before .loop in
     let a = b .before .before .before .before .before .before .before .args in
-    let w = rw (o .inv .2 (at (a .rows .now) (a .task * 128 + o .i)), c .enum-told .given .1) at (b .emit .ensures) in
+    let w = rw (c .enum-told .given .1) at (b .emit .ensures) in
     rw (← sub-zero (a .count))
-    (overflows (boxAt (a .rows .now) (a .header) (a .tasks) (a .task) (a .sides)) (a .plan .now) (a .at) (a .count) (o .inv .0)
+    (overflows (boxAt (a .rows .now) (a .header) (a .tasks) (a .task) (a .sides)) (a .plan .now) (a .at) (a .count) (o .inv)
     (b .before .before .before .loop-test .taken) (read-full w))
 
 add-i : tie.Need-add-i Inv-loop μ-loop
@@ -85,23 +74,19 @@ loop-again c =
     let b = c .before .before .before .before .before in
     let o = b .before .before .before .before .loop in
     let a = b .before .before .before .before .before .before .before .args in
-    let v = at (a .rows .now) (a .task * 128 + o .i) in
-    let w = rw (o .inv .2 v, c .before .p .given .1) at (b .emit .ensures) in (
-      stored (boxAt (a .rows .now) (a .header) (a .tasks) (a .task) (a .sides)) (a .plan .now) (a .at) (a .count) (o .inv .0)
-          (b .before .before .before .loop-test .taken) (read-next w),
-      length-set (o .next) (a .task) v ∙ o .inv .1,
-      λ u. set-set (o .next) (a .task) v u ∙ o .inv .2 u,
-    )
+    let w = rw (c .before .p .given .1) at (b .emit .ensures) in
+    stored (boxAt (a .rows .now) (a .header) (a .tasks) (a .task) (a .sides)) (a .plan .now) (a .at) (a .count) (o .inv)
+    (b .before .before .before .loop-test .taken) (read-next w)
 
 same-length-2 : tie.Need-same-length-2 Inv-loop μ-loop
-same-length-2 c = c .before .loop .inv .0 .same
+same-length-2 c = c .before .loop .inv .same
 
 returns-2 : tie.Need-returns-2 Inv-loop μ-loop
 unfolding holdWords
 returns-2 c =
     let a = c .before .before .before .before .args in
     rw (← sub-zero (a .count))
-    (ends (boxAt (a .rows .now) (a .header) (a .tasks) (a .task) (a .sides)) (a .plan .now) (a .at) (a .count) (c .before .loop .inv .0) (c .loop-test .left))
+    (ends (boxAt (a .rows .now) (a .header) (a .tasks) (a .task) (a .sides)) (a .plan .now) (a .at) (a .count) (c .before .loop .inv) (c .loop-test .left))
 
 pub hold-boxes-spec : {M : Type 1} → statement M
 hold-boxes-spec =
@@ -110,12 +95,10 @@ hold-boxes-spec =
     Inv-loop
     μ-loop
     loop-holds
-    mul-next
-    add-next
-    mul-next-2
-    shared-slice-read-next
-    mul-next-3
-    array-write-next
+    mul-side
+    add-side
+    mul-side-2
+    shared-slice-read-side
     emit-requires
     enum-known-p
     enum-told
