@@ -3,7 +3,7 @@ use Prim.Native.Nat.{ℕ, _+_, _-_, _≤_}
 use mathlib.Core.Path.{_≡_}
 use mathlib.Core.Bool.{Bool, false, cond}
 use mathlib.Core.List.{List}
-use lib.ListN.{length, set, drop}
+use lib.ListN.{length, set, drop, replicate}
 use lib.Dec.{ltb}
 use Rattle.model.specs.Test.{tabulate}
 use Rattle.model.specs.Set.{at}
@@ -13,7 +13,6 @@ use Rattle.model.specs.Read as model
 use Rattle.reader.specs.declared.Shape.{Shape}
 use Rattle.reader.specs.declared.scan.Scan.{Scan}
 use Rattle.reader.specs.declared.scan.Step.{Step}
-use Rattle.reader.specs.declared.run.Run.{Run}
 use Rattle.reader.specs.declared.Reading.{Reading}
 use Rattle.reader.specs.Answer.{shapeOf, answer}
 
@@ -61,12 +60,20 @@ pub record Reached (ws : List ℕ) (s : Scan) (i : ℕ) : Type 0 where
   pub rest : model.read ws ≡ readFrom scan i (drop i ws)
   pub within : i ≤ length ws
 
--- the scan of this shape while END has not come, and the run that ends with it before index i
+-- the scan of this shape while END has not come
 abbrev pub beforeEnd : Shape → List Bool → Scan
 beforeEnd shape held = record { shape = shape; held = held; ended = false }
 
-abbrev pub stops : Shape → List Bool → ℕ → Run
-stops shape held i = record { index = i; scan = beforeEnd shape held }
+-- a shape by its parts, one that has no tasks yet, and no device held
+abbrev pub shaped : ℕ → List ℕ → ℕ → List ℕ → List ℕ → Shape
+shaped devices capacities tasks actions starts =
+    record { devices = devices; capacities = capacities; tasks = tasks; actions = actions; starts = starts }
+
+abbrev pub noTasks : ℕ → List ℕ → Shape
+noTasks devices capacities = shaped devices capacities 0 (replicate 8 0) (replicate 8 0)
+
+abbrev pub noneHeld : List Bool
+noneHeld = replicate 16 false
 
 -- the shape whose last task has c actions
 abbrev pub counted : Shape → ℕ → Shape

@@ -100,11 +100,9 @@ pub fn read(words: &[u32]) -> Reading
     if model::MAX_WORDS < n {
         return refuse(model::TOO_MANY_WORDS, model::MAX_WORDS);
     }
-    // Without a fault only END is left after these two; else the first faulty word is.
-    let devices = run::read_devices(words, scan::new_scan());
-    let tasks = run::read_tasks(words, devices.index, devices.scan);
-    let mut s = tasks.scan;
-    let mut i = tasks.index;
+    let run = run::read_runs(words);
+    let mut s = run.scan;
+    let mut i = run.index;
     while i < n {
         let t = word::read_word(s, i, words[i]);
         let fault = t.fault;

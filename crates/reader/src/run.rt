@@ -1,57 +1,44 @@
-// Words in a row that have no fault, which mostly all but END are.
-ghost use mathlib.Core.Path.{_≡_};
-ghost use mathlib.Core.Bool.{false};
-ghost use Prim.Native.Nat.{_-_, _≤_};
+// Words in a row that have no fault, which mostly all but END are. They are noted in arrays of their own, so that no word copies what was read before it.
+ghost use mathlib.Core.List.{List};
+ghost use Prim.Native.Nat.{ℕ, _-_, _≤_};
+ghost use Rattle.model.specs.Read.{nothingRead};
 ghost use Rattle.reader.specs.declared.Shape.{Shape};
-ghost use Rattle.reader.specs.Follow.{Reached, beforeEnd, stops, counted, Opened};
+ghost use Rattle.reader.specs.Follow.{scanOf, Reached, beforeEnd, counted, Opened, noTasks, noneHeld, shaped};
 use crate::Shape;
 use crate::scan::Scan;
 use crate::scan::holding;
 
-// Words read in a row: the scan after them, and the index of the next word.
+// What was read in a row: the scan after it, and the index of the next word.
 pub(crate) struct Run {
     pub(crate) index: usize,
     pub(crate) scan: Scan,
 }
 
-// The run that ends before index i, without an END.
-fn stopped(shape: Shape, held: [bool; model::MAX_DEVICES], i: usize) -> Run
-    ensures { λ r. ⌜ r ≡ stops shape held i ⌝ }
-{
-    let scan = Scan {
-        shape: shape,
-        held: held,
-        ended: false,
-    };
-    Run {
-        index: i,
-        scan: scan,
-    }
+// The tasks read in a row: how many, and the index of the next word.
+pub(crate) struct Tasks {
+    pub(crate) count: usize,
+    pub(crate) index: usize,
 }
 
-// The DEVICEs that the words start with, up to a word that is none or has a fault: that one is left to read_word. Here no word copies the scan.
-pub(crate) fn read_devices(words: &[u32], s: Scan) -> Run
-    requires { ⌜ Reached (now words) s 0 × (s .ended ≡ false) × (s .shape .tasks ≡ 0) ⌝ }
-    ensures { λ r. ⌜ Reached (now (words .entry)) (r .scan) (r .index) × (r .scan .ended ≡ false) ⌝ }
+// The DEVICEs that the words start with, up to a word that is none or has a fault. Their capacities are noted; the answer is how many they are.
+fn read_devices(words: &[u32], capacities: &mut [u8; model::MAX_DEVICES]) -> usize
+    requires { ⌜ Reached (now words) (beforeEnd (noTasks 0 (now capacities)) noneHeld) 0 ⌝ }
+    ensures { λ r. ⌜ Reached (now (words .entry)) (beforeEnd (noTasks r (now (capacities .exit))) noneHeld) r ⌝ }
 {
-    let mut shape = s.shape;
-    let held = s.held;
     let mut i = 0;
     while i < words.len() {
         let word = words[i];
         let capacity = word % model::FIELDS;
-        let devices = shape.devices;
         if word / model::FIELDS != model::DEVICE || capacity < 1 {
-            return stopped(shape, held, i);
+            return i;
         }
-        if model::MAX_CAPACITY < capacity || model::MAX_DEVICES <= devices {
-            return stopped(shape, held, i);
+        if model::MAX_CAPACITY < capacity || model::MAX_DEVICES <= i {
+            return i;
         }
-        shape.capacities[devices] = capacity as u8;
-        shape.devices = devices + 1;
+        capacities[i] = capacity as u8;
         i += 1;
     }
-    stopped(shape, held, i)
+    i
 }
 
 // CLAIMs and RELEASEs of the task just opened, from an index up to a word that is neither or has a fault. They are noted in `held`; the answer is the index
@@ -84,28 +71,75 @@ fn read_actions(
     i
 }
 
-// The tasks from an index on, each with its actions, up to a word that is none of theirs or has a fault.
-pub(crate) fn read_tasks(words: &[u32], from: usize, s: Scan) -> Run
-    requires { ⌜ Reached (now words) s from × (s .ended ≡ false) ⌝ }
-    ensures { λ r. ⌜ Reached (now (words .entry)) (r .scan) (r .index) ⌝ }
+// The tasks from an index on, each with its actions, up to a word that is none of theirs or has a fault. Their action counts, where their actions start and what
+// the last one holds are noted in arrays of zeros.
+fn read_tasks(
+    words: &[u32],
+    from: usize,
+    devices: usize,
+    actions: &mut [u8; model::MAX_TASKS],
+    starts: &mut [usize; model::MAX_TASKS],
+    held: &mut [bool; model::MAX_DEVICES],
+) -> Tasks
+    requires { ⌜ ((capacities : List ℕ) × Reached (now words) (beforeEnd (shaped devices capacities 0 (now actions) (now starts)) (now held)) from) ⌝ }
+    ensures { λ r. ⌜ ((capacities : List ℕ)
+        → Reached (now (words .entry)) (beforeEnd (shaped devices capacities 0 (now (actions .entry)) (now (starts .entry))) (now (held .entry))) from
+        → Reached (now (words .entry)) (beforeEnd (shaped devices capacities (r .count) (now (actions .exit)) (now (starts .exit))) (now (held .exit))) (r .index)) ⌝ }
 {
-    let mut shape = s.shape;
-    let mut held = s.held;
+    let mut tasks = 0;
     let mut i = from;
     while i < words.len() {
         let word = words[i];
-        let tasks = shape.tasks;
         if word / model::FIELDS != model::TASK || 0 < word % model::FIELDS {
-            return stopped(shape, held, i);
+            break;
         }
-        if model::MAX_TASKS <= tasks || holding(held) {
-            return stopped(shape, held, i);
+        if model::MAX_TASKS <= tasks || holding(*held) {
+            break;
         }
         let first = i + 1;
-        shape.starts[tasks] = first;
-        shape.tasks = tasks + 1;
-        i = read_actions(words, first, shape.devices, &mut held);
-        shape.actions[tasks] = (i - first) as u8;
+        starts[tasks] = first;
+        i = read_actions(words, first, devices, held);
+        actions[tasks] = (i - first) as u8;
+        tasks += 1;
     }
-    stopped(shape, held, i)
+    Tasks {
+        count: tasks,
+        index: i,
+    }
+}
+
+// Devices and tasks, as far as they have no fault. Without one only END is left.
+pub(crate) fn read_runs(words: &[u32]) -> Run
+    requires { ⌜ Reached (now words) (scanOf nothingRead) 0 ⌝ }
+    ensures { λ r. ⌜ Reached (now (words .entry)) (r .scan) (r .index) ⌝ }
+{
+    let mut capacities = [0u8; model::MAX_DEVICES];
+    let mut actions = [0u8; model::MAX_TASKS];
+    let mut starts = [0usize; model::MAX_TASKS];
+    let mut held = [false; model::MAX_DEVICES];
+    let devices = read_devices(words, &mut capacities);
+    let tasks = read_tasks(
+        words,
+        devices,
+        devices,
+        &mut actions,
+        &mut starts,
+        &mut held,
+    );
+    let shape = Shape {
+        devices: devices,
+        capacities: capacities,
+        tasks: tasks.count,
+        actions: actions,
+        starts: starts,
+    };
+    let scan = Scan {
+        shape: shape,
+        held: held,
+        ended: false,
+    };
+    Run {
+        index: tasks.index,
+        scan: scan,
+    }
 }

@@ -5,7 +5,7 @@ ghost use lib.ListN.{getD};
 ghost use Rattle.model.specs.Test.{any};
 ghost use Rattle.model.specs.Read.{nothingRead};
 ghost use Rattle.reader.specs.Answer.{shapeOf};
-ghost use Rattle.reader.specs.Follow.{scanOf, advanced};
+ghost use Rattle.reader.specs.Follow.{advanced};
 use crate::Shape;
 
 // The fault number of a word without a fault.
@@ -34,19 +34,6 @@ pub(crate) fn no_shape() -> Shape
         tasks: 0,
         actions: [0; model::MAX_TASKS],
         starts: [0; model::MAX_TASKS],
-    }
-}
-
-// Before the first word.
-pub(crate) fn new_scan() -> Scan
-    ensures { λ r. ⌜ r ≡ scanOf nothingRead ⌝ }
-{
-    let shape = no_shape();
-    let held = [false; model::MAX_DEVICES];
-    Scan {
-        shape: shape,
-        held: held,
-        ended: false,
     }
 }
 

@@ -3,7 +3,7 @@
 use borrow.Author.Needs.{needs}
 use borrow.Author.Tests.{lt-ltb, le-ltb, eq-eqb, ne-eqb}
 use Prim.Native.Nat.{ℕ, _+_, _-_, _≤_, _<_}
-use mathlib.Core.Path.{_≡_, sym, ap, _∙_}
+use mathlib.Core.Path.{_≡_, refl, sym, ap, _∙_}
 use mathlib.Core.List.{List}
 use native.Mathlib.Omega.{arith}
 use lib.ListN.{length, getD}
@@ -61,27 +61,18 @@ returns-2 : tie.Need-returns-2 Inv-loop μ-loop
 unfolding model.read
 returns-2 c = c .refuse2 .ensures ∙ rw (ne-eqb _ _ (c .before .before .if1 .left), lt-ltb _ _ (c .before .if2 .taken))
 
-new-scan-requires : tie.Need-new-scan-requires Inv-loop μ-loop
-new-scan-requires c κs = search needs
-
-read-devices-requires : tie.Need-read-devices-requires Inv-loop μ-loop
-read-devices-requires c κs = (
-  record {
-    scan = nothingRead;
-    sound = start-sound;
-    same = c .new-scan .ensures;
-    rest = started _ (c .before .before .if1 .left) (c .before .if2 .left);
-    within = search needs;
-  },
-  rw (c .new-scan .ensures),
-  rw (c .new-scan .ensures),
-)
-
-read-tasks-requires : tie.Need-read-tasks-requires Inv-loop μ-loop
-read-tasks-requires c κs = c .read-devices .ensures
+read-runs-requires : tie.Need-read-runs-requires Inv-loop μ-loop
+read-runs-requires c κs =
+    record {
+      scan = nothingRead;
+      sound = start-sound;
+      same = refl;
+      rest = started _ (c .before .if1 .left) (c .if2 .left);
+      within = search needs;
+    }
 
 loop-holds : tie.Need-loop-holds Inv-loop μ-loop
-loop-holds c = c .before .read-tasks .ensures
+loop-holds c = c .before .read-runs .ensures
 
 mul-read-word : tie.Need-mul-read-word Inv-loop μ-loop
 mul-read-word c = search needs
@@ -134,9 +125,7 @@ read-spec =
     returns
     refuse-requires-2
     returns-2
-    new-scan-requires
-    read-devices-requires
-    read-tasks-requires
+    read-runs-requires
     loop-holds
     mul-read-word
     shared-slice-read-read-word
