@@ -1,6 +1,7 @@
 // The forbidden boxes of a set, written to a plan in order (document 01, "Forbidden boxes").
 mod rows;
 mod sets;
+mod writing;
 
 ghost use mathlib.Core.Path.{_≡_};
 ghost use Prim.Native.Nat.{_≤_, _<_};

@@ -11,6 +11,7 @@ ghost use Rattle.forbidden_boxes.specs.Rows.{Sized, Whole};
 ghost use Rattle.forbidden_boxes.specs.Choices.{claimersFrom, holdWords, sideCount, firstSide, choiceWords, setWords, tableWords};
 use crate::rows::ROW;
 use crate::rows::WHOLE;
+use crate::writing::write_box;
 use plan_words::Placed;
 use task_sets::TASK_SET_COUNT;
 
@@ -88,7 +89,7 @@ fn hold_boxes(
     let mut i = 0;
     while i < count {
         let side = rows[task * ROW + i];
-        match plan_words::emit(plan, to, header, sides, tasks, task, side) {
+        match write_box(plan, to, header, sides, tasks, task, side) {
             Placed::Next(p) => {
                 to = p;
             }

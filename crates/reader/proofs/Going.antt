@@ -19,7 +19,7 @@ use Rattle.model.proofs.Tests.{by-test}
 use Rattle.model.proofs.Lists.{length-tabulate}
 use Rattle.reader.specs.declared.Shape.{Shape}
 use Rattle.reader.specs.declared.scan.Scan.{Scan}
-use Rattle.reader.specs.Follow.{scanOf, Sound, Bounded, Reached, beforeEnd, counted, Opened}
+use Rattle.reader.specs.Follow.{scanOf, Sound, Bounded, Reached, beforeEnd, shaped, counted, Opened}
 use Rattle.reader.proofs.Arrays.{padded-past}
 use Rattle.reader.proofs.LastTask.{count-last}
 use Rattle.reader.proofs.Steps.{added, device-free, some-held, opened, task-free, held-at, acted, action-fault, some-task}
@@ -52,36 +52,15 @@ module _ (ws : List ℕ) (s : Scan) (i : ℕ) (at : Reached ws s i) where
 
 -- the shape with one device more, of capacity f
 abbrev pub withDevice : Shape → ℕ → Shape
-withDevice shape f =
-    record {
-      devices = shape .devices + 1;
-      capacities = set (shape .capacities) (shape .devices) f;
-      tasks = shape .tasks;
-      actions = shape .actions;
-      starts = shape .starts;
-    }
+withDevice shape f = shaped (shape .devices + 1) (set (shape .capacities) (shape .devices) f) (shape .tasks) (shape .actions) (shape .starts)
 
 -- with one task more, opened at index i
 abbrev pub withTask : Shape → ℕ → Shape
-withTask shape i =
-    record {
-      devices = shape .devices;
-      capacities = shape .capacities;
-      tasks = shape .tasks + 1;
-      actions = shape .actions;
-      starts = set (shape .starts) (shape .tasks) (i + 1);
-    }
+withTask shape i = shaped (shape .devices) (shape .capacities) (shape .tasks + 1) (shape .actions) (set (shape .starts) (shape .tasks) (i + 1))
 
 -- with one action more in task t
-abbrev pub oneMore : Shape → ℕ → Shape
-oneMore shape t =
-    record {
-      devices = shape .devices;
-      capacities = shape .capacities;
-      tasks = shape .tasks;
-      actions = set (shape .actions) t (getD (shape .actions) t 0 + 1);
-      starts = shape .starts;
-    }
+abbrev oneMore : Shape → ℕ → Shape
+oneMore shape t = shaped (shape .devices) (shape .capacities) (shape .tasks) (set (shape .actions) t (getD (shape .actions) t 0 + 1)) (shape .starts)
 
 -- a CLAIM (b) or RELEASE of device f in the open task t that nothing forbids
 module _ (m : model.Scan) (i : ℕ) (ok : Sound m i) (running : m .ended ≡ false) (shape : Shape) (held : List Bool) (same : shape ≡ scanOf m .shape)

@@ -77,14 +77,7 @@ noneHeld = replicate 16 false
 
 -- the shape whose last task has c actions
 abbrev pub counted : Shape → ℕ → Shape
-counted shape c =
-    record {
-      devices = shape .devices;
-      capacities = shape .capacities;
-      tasks = shape .tasks;
-      actions = set (shape .actions) (shape .tasks - 1) c;
-      starts = shape .starts;
-    }
+counted shape c = shaped (shape .devices) (shape .capacities) (shape .tasks) (set (shape .actions) (shape .tasks - 1) c) (shape .starts)
 
 -- i words led to the opening of the last task of this shape, which has so many devices
 pub record Opened (ws : List ℕ) (shape : Shape) (held : List Bool) (devices i : ℕ) : Type 0 where

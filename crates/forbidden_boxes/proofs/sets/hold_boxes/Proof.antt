@@ -40,8 +40,8 @@ mul-side-2 c = omega arith
 shared-slice-read-side : tie.Need-shared-slice-read-side Inv-loop μ-loop
 shared-slice-read-side c = omega arith
 
-emit-requires : tie.Need-emit-requires Inv-loop μ-loop
-emit-requires c κs = (omega arith, (omega arith, omega arith))
+write-box-requires : tie.Need-write-box-requires Inv-loop μ-loop
+write-box-requires c κs = (omega arith, (omega arith, omega arith))
 
 enum-known-p : tie.Need-enum-known-p Inv-loop μ-loop
 enum-known-p c = c .match .keys1
@@ -50,7 +50,7 @@ enum-told : tie.Need-enum-told Inv-loop μ-loop
 enum-told c = c .match .keys2
 
 same-length : tie.Need-same-length Inv-loop μ-loop
-same-length c = c .before .before .before .before .emit .kept .0 ∙ c .before .before .before .before .before .before .before .before .loop .inv .same
+same-length c = c .before .before .before .before .write-box .kept .0 ∙ c .before .before .before .before .before .before .before .before .loop .inv .same
 
 returns : tie.Need-returns Inv-loop μ-loop
 unfolding holdWords
@@ -58,7 +58,7 @@ returns c =
     let b = c .before .before .before .before in
     let o = b .before .before .before .before .loop in
     let a = b .before .before .before .before .before .before .before .args in
-    let w = rw (c .enum-told .given .1) at (b .emit .ensures) in
+    let w = rw (c .enum-told .given .1) at (b .write-box .ensures) in
     rw (← sub-zero (a .count))
     (overflows (boxAt (a .rows .now) (a .header) (a .tasks) (a .task) (a .sides)) (a .plan .now) (a .at) (a .count) (o .inv)
     (b .before .before .before .loop-test .taken) (read-full w))
@@ -74,7 +74,7 @@ loop-again c =
     let b = c .before .before .before .before .before in
     let o = b .before .before .before .before .loop in
     let a = b .before .before .before .before .before .before .before .args in
-    let w = rw (c .before .p .given .1) at (b .emit .ensures) in
+    let w = rw (c .before .p .given .1) at (b .write-box .ensures) in
     stored (boxAt (a .rows .now) (a .header) (a .tasks) (a .task) (a .sides)) (a .plan .now) (a .at) (a .count) (o .inv)
     (b .before .before .before .loop-test .taken) (read-next w)
 
@@ -99,7 +99,7 @@ hold-boxes-spec =
     add-side
     mul-side-2
     shared-slice-read-side
-    emit-requires
+    write-box-requires
     enum-known-p
     enum-told
     same-length

@@ -1,6 +1,7 @@
+-- `forbidden_boxes::writing::side_of` meets its contract.
 use borrow.Author.Tests.{eq-eqb, ne-eqb}
-use Rattle.plan_words.proofs.side_of.Statement.{statement}
-use Rattle.plan_words.proofs.side_of.Tie as tie
+use Rattle.forbidden_boxes.proofs.writing.side_of.Statement.{statement}
+use Rattle.forbidden_boxes.proofs.writing.side_of.Tie as tie
 
 returns : tie.Need-returns
 returns c = rw (eq-eqb _ _ (c .if1 .taken))

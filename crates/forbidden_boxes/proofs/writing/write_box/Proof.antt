@@ -1,3 +1,4 @@
+-- `forbidden_boxes::writing::write_box` meets its contract. The invariant: the header and the first j sides are written.
 use native.Mathlib.Omega.{arith}
 use Prim.Native.Nat.{ℕ, _+_, _-_, _<_, _≤_}
 use mathlib.Core.Path.{_≡_, refl, sym, ap, _∙_}
@@ -9,10 +10,10 @@ use mathlib.Core.Bool.{cond}
 use lib.Dec.{eqb}
 use borrow.Author.Tests.{eqb-true, eqb-false}
 use Rattle.model.proofs.Tests.{by-test}
 use Rattle.plan_words.proofs.Write.{write-none, write-then, write-one, wrote-next, wrote-full}
 use Rattle.plan_words.specs.Words.{write}
-use Rattle.plan_words.proofs.emit.Statement.{statement}
-use Rattle.plan_words.proofs.emit.Tie as tie
+use Rattle.forbidden_boxes.proofs.writing.write_box.Statement.{statement}
+use Rattle.forbidden_boxes.proofs.writing.write_box.Tie as tie
 
 -- an entry of a list with one other entry
 getD-set : (l : List ℕ) (t j v : ℕ) → t < length l → getD (set l t v) j 0 ≡ cond (eqb j t) v (getD l j 0)
@@ -125,8 +126,8 @@ returns-2 c =
     ∙ ap (λ (q : List ℕ). write q (a .at + 1) (take (a .count) ws)) (sets-eq (a .header ∷ []) (a .plan .now) (a .at) (omega arith))
     ∙ write-then (a .plan .now) (a .at) (a .header ∷ []) (take (a .count) ws) (omega arith))
 
-pub emit-spec : {M : Type 1} → statement M
-emit-spec =
+pub write-box-spec : {M : Type 1} → statement M
+write-box-spec =
     tie.close
     (tie.spec
     Inv-loop
