@@ -36,6 +36,7 @@ pub record PlanExact (s : Set) (p : Plan) : Type 0 where
   pub rising : AscendingFrom 0 (p .dead)
   pub listed : (r : ℕ) → List·Memᴰ r (p .dead) ↔ ((r < size (lengthsOf s)) × Dead (lengthsOf s) (permitted s) (stateAt (lengthsOf s) r))
 
+-- demand 2
 pub record Demand2 : Type 0 where
   pub layout : LayoutExact
   -- where an analysis is accepted, of the plan read back from the plan slice as it leaves it, whatever the slices held and however long they are

@@ -36,6 +36,7 @@ a =
     0x10000001 ∷ 0x10000001 ∷ 0x20000000 ∷ 0x30000000 ∷ 0x30000001 ∷ 0x40000001 ∷ 0x40000000
     ∷ 0x20000000 ∷ 0x30000001 ∷ 0x30000000 ∷ 0x40000000 ∷ 0x40000001 ∷ 0x5000000C ∷ []
 
+-- a's map
 abbrev pub mapA : List ℕ
 mapA = analysed a 25 11 .map
 
@@ -64,6 +65,7 @@ e = record {
   tasks = (claim 0 ∷ release 0 ∷ []) ∷ (claim 0 ∷ release 0 ∷ []) ∷ (claim 0 ∷ release 0 ∷ []) ∷ [];
 }
 
+-- document 01, "Desk examples", a to l
 pub record Examples : Type 0 where
   -- a's plan, word for word
   pub a-answer : analysed a 25 11 .answer ≡ planned 11

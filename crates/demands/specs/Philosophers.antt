@@ -11,9 +11,11 @@ use Rattle.demands.specs.Examples.{_to_}
 abbrev pub philosopher : ℕ → Task
 philosopher i = claim i ∷ claim ((i + 1) % 5) ∷ release i ∷ release ((i + 1) % 5) ∷ []
 
+-- five of them round a table of five devices
 abbrev pub five : Set
 five = record { capacities = 1 ∷ 1 ∷ 1 ∷ 1 ∷ 1 ∷ []; tasks = map philosopher (0 ∷ 1 ∷ 2 ∷ 3 ∷ 4 ∷ []) }
 
+-- what their analysis finds
 pub record Philosophers : Type 0 where
   pub states : size (lengthsOf five) ≡ 3125
   -- the one dead state is that where each task holds its left device: rank 781

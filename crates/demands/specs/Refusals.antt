@@ -41,6 +41,7 @@ Only listed finished = Unit {0}
 Only listed (busy d) = Unit {0}
 Only listed (held r) = Unit {0}
 
+-- for each call, on all input
 pub record Refusals : Type 0 where
   pub reads : (words : List ℕ) (n p : ℕ) → read words ≡ faulty n p → ofSet n ≡ true
   pub analyses : (words map plan : List ℕ) → Only ofAnalysis (analyse words map plan .answer)

@@ -47,6 +47,7 @@ pub record RouteRight (s : Set) (x : State) (b n : ℕ) (out : Routed) : Type 0 
   pub no-route : (p : ℕ) → out .answer ≡ refused 20 p
       → ((b ≡ 2) ⊎ (b ≡ 3)) × Unsafe (lengthsOf s) (permitted s) x × (p ≡ rank (lengthsOf s) x)
 
+-- the route's demand
 pub record RouteDemand : Type 0 where
   -- for all words and slices of an analysis that made the map, the map slice as it leaves it, and every record whose eight positions are in place
   pub routes : (words map plan : List ℕ) → MapMade (analyse words map plan .answer)

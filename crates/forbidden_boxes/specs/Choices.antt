@@ -24,6 +24,7 @@ holdWords rows header n t sides count = upTo count 0 (λ i. header ∷ take n (s
 unfoldable pub sideCount : List ℕ → ℕ → ℕ → ℕ
 sideCount counts t m = cond (eqb (m % 2) 1) (at counts t) 1
 
+-- where the first of them stands
 unfoldable pub firstSide : ℕ → ℕ → ℕ
 firstSide t m = cond (eqb (m % 2) 1) (t * 128) (t * 128 + 127)
 

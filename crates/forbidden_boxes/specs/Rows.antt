@@ -48,6 +48,7 @@ pub record Row (d t : ℕ) (task : Task) (count : ℕ) (rows : List ℕ) : Type 
   pub listed : Listed t (holds d task) count rows
   pub whole : at rows (t * 128 + 127) ≡ sideWord t (record { low = 0; high = length task })
 
+-- that row is made of the words, and the others are as before
 pub record RowMade (words : List ℕ) (start n d t : ℕ) (before : List ℕ) (count : ℕ) (after : List ℕ) : Type 0 where
   pub row : Row d t (taskIn words start n) count after
   pub kept : Kept t before after

@@ -6,6 +6,7 @@ use lib.ListN.{getD}
 use Rattle.model.specs.State.{State}
 use Rattle.model.specs.Hold.{Interval, within}
 
+-- an interval of positions for each task
 abbrev pub Box : Type 0
 Box = List Interval
 

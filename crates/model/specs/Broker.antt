@@ -15,6 +15,7 @@ pub record Record : Type 0 where
   pub positions : List ℕ
   pub grants : ℕ
 
+-- the record that a service starts with: all 0
 abbrev pub fresh : Record
 fresh = record { positions = replicate 8 0; grants = 0 }
 
@@ -70,6 +71,7 @@ isGranted (refused n p) = false
 abbrev pub answered : Record → ℕ → Answer → Served
 answered r t a = record { answer = a; after = cond (isGranted a) (grant r t) r }
 
+-- a refused set changes nothing
 unfoldable pub bidReading : Reading → List ℕ → Record → ℕ → Served
 bidReading (faulty n p) m r t = record { answer = refused n p; after = r }
 bidReading (reads s) m r t = answered r t (bidAnswer s m r t)
@@ -86,10 +88,12 @@ againSet s r =
     (cond (not (isEnd (lengthsOf s) x)) (record { answer = refused 19 (rank (lengthsOf s) x); after = r })
     (record { answer = restarted; after = record { positions = replicate 8 0; grants = r .grants } }))
 
+-- a refused set changes nothing
 unfoldable pub againReading : Reading → Record → Served
 againReading (faulty n p) r = record { answer = refused n p; after = r }
 againReading (reads s) r = againSet s r
 
+-- again takes the words and no map
 abbrev pub again : List ℕ → Record → Served
 again words r = againReading (read words) r
 
@@ -99,6 +103,7 @@ pub data Call : Type 0 where
   agains : Call
 
 module _ (words m : List ℕ) where
+  -- a call on words and map
   unfoldable pub serve : Record → Call → Served
   serve r (bids t) = bid words m r t
   serve r agains = again words r

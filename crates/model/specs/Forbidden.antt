@@ -54,6 +54,7 @@ unfoldable pub forbiddenFrom : ℕ → List ℕ → List Task → List Forbidden
 forbiddenFrom d [] tasks = []
 forbiddenFrom d (s ∷ ss) tasks = map (λ b. record { device = d; box = b }) (deviceBoxes d s tasks) ++ forbiddenFrom (suc d) ss tasks
 
+-- the forbidden boxes of a set, in order
 unfoldable pub forbidden : Set → List Forbidden
 forbidden s = forbiddenFrom 0 (s .capacities) (s .tasks)
 
@@ -61,5 +62,6 @@ forbidden s = forbiddenFrom 0 (s .capacities) (s .tasks)
 abbrev pub boxes : List Forbidden → List Box
 boxes = map (λ f. f .box)
 
+-- the same without their devices
 abbrev pub forbiddenBoxes : Set → List Box
 forbiddenBoxes s = boxes (forbidden s)

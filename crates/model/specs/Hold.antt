@@ -13,6 +13,7 @@ pub record Interval : Type 0 where
   pub low : ℕ
   pub high : ℕ
 
+-- position p is one of them
 abbrev pub within : Interval → ℕ → Bool
 within i p = leb (i .low) p && leb p (i .high)
 
@@ -30,6 +31,7 @@ holdsFrom d p (claim e ∷ rest) =
     let more = holdsFrom d (suc p) rest in
     cond (eqb e d) (record { low = suc p; high = heldTo d (suc p) rest } ∷ more) more
 
+-- the holds of device d in a whole task
 abbrev pub holds : ℕ → Task → List Interval
 holds d task = holdsFrom d 0 task
 

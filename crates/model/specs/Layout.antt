@@ -8,9 +8,11 @@ use Rattle.model.specs.Set.{Action, claim, release, Task, Set, lengthsOf
 abbrev pub word : ℕ → ℕ → ℕ
 word kind field = kind * 0x10000000 + field
 
+-- a word's top four bits
 abbrev pub kindOf : ℕ → ℕ
 kindOf w = w / 0x10000000
 
+-- its low 28 bits
 abbrev pub fieldOf : ℕ → ℕ
 fieldOf w = w % 0x10000000
 
@@ -30,6 +32,7 @@ RELEASE = 4
 abbrev pub END : ℕ
 END = 5
 
+-- CLAIM or RELEASE, with the device as field
 unfoldable pub actionWord : Action → ℕ
 actionWord (claim d) = word CLAIM d
 actionWord (release d) = word RELEASE d

@@ -30,6 +30,7 @@ pub record Scan : Type 0 where
   pub set : Set
   pub ended : Bool
 
+-- before the first word
 abbrev pub nothingRead : Scan
 nothingRead = record { set = record { capacities = []; tasks = [] }; ended = false }
 
@@ -126,5 +127,6 @@ unfoldable pub setOf : Reading → Set
 setOf (reads s) = s
 setOf (faulty n p) = record { capacities = []; tasks = [] }
 
+-- the set that a list of words declares
 abbrev pub setIn : List ℕ → Set
 setIn ws = setOf (read ws)

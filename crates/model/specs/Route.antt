@@ -17,6 +17,7 @@ module _ (ls m : List ℕ) where
   stepFrom zero t x = t
   stepFrom (suc k) t x = cond (unfinished ls x t && eqb (at m (rank ls (next x t))) 0) t (stepFrom k (suc t) x)
 
+  -- the smallest of all tasks; their number if there is none
   abbrev pub firstStep : State → ℕ
   firstStep x = stepFrom (length ls) 0 x
 
@@ -64,6 +65,7 @@ routeSet s m r route =
     (cond (not (eqb b 0)) (refuse 20 (rank ls x) route)
     (routeFrom ls m x route))))
 
+-- a refused set is a refused route
 unfoldable pub routeReading : Reading → List ℕ → Record → List ℕ → Routed
 routeReading (faulty n p) m r route = refuse n p route
 routeReading (reads s) m r route = routeSet s m r route

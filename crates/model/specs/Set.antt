@@ -28,6 +28,7 @@ pub record Set : Type 0 where
 abbrev pub lengths : List Task → List ℕ
 lengths = map length
 
+-- the same of a set
 abbrev pub lengthsOf : Set → List ℕ
 lengthsOf s = lengths (s .tasks)
 

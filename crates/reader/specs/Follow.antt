@@ -64,14 +64,16 @@ pub record Reached (ws : List ℕ) (s : Scan) (i : ℕ) : Type 0 where
 abbrev pub beforeEnd : Shape → List Bool → Scan
 beforeEnd shape held = record { shape = shape; held = held; ended = false }
 
--- a shape by its parts, one that has no tasks yet, and no device held
+-- a shape by its parts
 abbrev pub shaped : ℕ → List ℕ → ℕ → List ℕ → List ℕ → Shape
 shaped devices capacities tasks actions starts =
     record { devices = devices; capacities = capacities; tasks = tasks; actions = actions; starts = starts }
 
+-- one that has no tasks yet
 abbrev pub noTasks : ℕ → List ℕ → Shape
 noTasks devices capacities = shaped devices capacities 0 (replicate 8 0) (replicate 8 0)
 
+-- no device held
 abbrev pub noneHeld : List Bool
 noneHeld = replicate 16 false
 
