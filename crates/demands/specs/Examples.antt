@@ -5,17 +5,12 @@ use mathlib.Core.List.{List, [], _∷_, map}
 use lib.ListN.{length, replicate}
 use Rattle.model.specs.Set.{Set, claim, release}
 use Rattle.model.specs.Read.{faulty, read}
-use Rattle.model.specs.Hold.{Interval}
 use Rattle.model.specs.Plan.{ranksFrom, mapOf, unsafeOf, deadOf}
 use Rattle.model.specs.Answer.{Answer, planned, routed, granted, busy, held}
 use Rattle.model.specs.Analysis.{Analysed, analyse}
 use Rattle.model.specs.Broker.{Record, fresh, Call, bids, serve, bid, afterCalls}
 use Rattle.model.specs.Route.{route}
-
--- the positions from p to q
-infixl 80 _to_
-abbrev pub _to_ : ℕ → ℕ → Interval
-p to q = record { low = p; high = q }
+use Rattle.demands.specs.Terms.{_to_}
 
 -- how many states have map byte b
 abbrev pub count : Set → ℕ → ℕ

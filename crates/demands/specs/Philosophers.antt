@@ -5,7 +5,7 @@ use mathlib.Core.Path.{_≡_}
 use mathlib.Core.List.{[], _∷_, map}
 use Rattle.model.specs.Set.{Set, Task, claim, release, lengthsOf, size}
 use Rattle.model.specs.Plan.{unsafeOf, deadOf}
-use Rattle.demands.specs.Examples.{_to_}
+use Rattle.demands.specs.Terms.{_to_}
 
 -- the task between devices i and i + 1, counted round
 abbrev pub philosopher : ℕ → Task

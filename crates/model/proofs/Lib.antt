@@ -15,6 +15,7 @@ pub mod ForbiddenExact
 pub mod Holds
 pub mod HoldWalk
 pub mod StartOpen
+pub mod ReleaseOpen
 pub mod Sums
 pub mod Moves
 pub mod BrokerOpen

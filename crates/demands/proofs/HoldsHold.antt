@@ -1,0 +1,44 @@
+-- What a task holds, its holds, the holders of a device and the permitted states are as document 01 says.
+use Prim.Native.Nat.{ℕ, zero, suc, _+_}
+use native.Mathlib.Omega.{arith}
+use mathlib.Core.Path.{_≡_, refl}
+use mathlib.Core.Bool.{Bool, false, cond}
+use mathlib.Core.List.{List, [], _∷_}
+use lib.ListN.{length, getD}
+use Rattle.model.specs.Set.{Task, lengths, taskAt, at}
+use Rattle.model.specs.State.{State, InGrid}
+use Rattle.model.specs.Hold.{holds, holding, held}
+use Rattle.model.proofs.Ranks.{tail-grid}
+use Rattle.model.proofs.HoldWalk.{holds-walk}
+use Rattle.model.proofs.Permitted.{permitted-intro, permitted-fits}
+use Rattle.demands.specs.Terms.{howMany}
+use Rattle.demands.specs.Holds.{HoldsRight}
+use Rattle.demands.proofs.StillHeldSteps.{walk-still}
+use Rattle.demands.proofs.HoldList.{holds-rise, holds-listed}
+
+-- counted from the other end
+count-first : (n : ℕ) (f : ℕ → Bool) → howMany (suc n) f ≡ cond (f 0) 1 0 + howMany n (λ t. f (suc t))
+unfolding howMany
+count-first zero f = refl
+count-first (suc n) f = omega (arith, count-first n f)
+
+count-holders : (d : ℕ) (tasks : List Task) (x : State) → InGrid (lengths tasks) x
+    → held d tasks x ≡ howMany (length tasks) (λ t. holding (holds d (getD tasks t [])) (at x t))
+unfolding held howMany
+count-holders d [] x g = refl
+count-holders d (task ∷ tasks) [] g = absurd (omega arith)
+count-holders d (task ∷ tasks) (p ∷ x) g =
+    rw (count-holders d tasks x (tail-grid g), count-first (length tasks) (λ t. holding (holds d (getD (task ∷ tasks) t [])) (at (p ∷ x) t)))
+
+pub holds-hold : HoldsRight
+holds-hold = record {
+  holds-right = λ s w. record {
+    after = λ t d k h l.
+        let b = w .each-task t h .balance d in
+        rw (holds-walk d k (taskAt s t) b l) (walk-still d (taskAt s t) k l);
+    listed = λ t d i h. holds-listed d (taskAt s t) i (w .each-task t h .balance d);
+    rising = λ t d h. holds-rise d 0 false (taskAt s t) (w .each-task t h .balance d);
+    holders = λ d x g. count-holders d (s .tasks) x g;
+    permits = λ x. (permitted-fits s x, permitted-intro s x);
+  };
+}

@@ -1,0 +1,129 @@
+-- Open, unsafe and dead states are what document 01 says, and so is each byte of a slice that carries the map.
+use Prim.Native.Nat.{ℕ, zero, suc, _+_, _<_, _≤_}
+use native.Mathlib.Omega.{arith}
+use mathlib.Core.Path.{_≡_, refl}
+use mathlib.Core.Logic.{_↔_, Iff·trans}
+use mathlib.Core.Bool.{Bool, true, false}
+use mathlib.Core.List.{List, [], _∷_}
+use lib.ListN.{length}
+use borrow.Author.Tests.{ltb-true, lt-ltb}
+use Rattle.model.specs.Test.{any}
+use Rattle.model.specs.Set.{Set, lengthsOf, at}
+use Rattle.model.specs.State.{State, InGrid, next, unfinished, isEnd, sum, rank}
+use Rattle.model.specs.Hold.{permitted}
+use Rattle.model.specs.Run.{CanEnd, ended, step, allowed, Dead}
+use Rattle.model.specs.Map.{Byte}
+use Rattle.model.proofs.Tests.{by-test, true-not-false, and-true, any-true, any-false}
+use Rattle.model.proofs.States.{unfinished-task, next-grid}
+use Rattle.model.proofs.Ranks.{rank-lt}
+use Rattle.model.proofs.Sums.{sum-next, sum-lt}
+use Rattle.model.proofs.Byte.{dead-unsafe}
+use Rattle.model.proofs.MapExact.{map-right}
+use Rattle.model.proofs.Records.{Carries}
+use Rattle.demands.specs.MapDemand.{Leads, ReachesEnd, IsDead, IsUnsafe, Bytes, MapRight}
+use Rattle.demands.proofs.StatesHold.{of-states}
+
+module _ (s : Set) where
+  abbrev ls : List ℕ
+  ls = lengthsOf s
+
+  -- a step that stands in a list of steps
+  left : (x : State) (t : ℕ) → at x t < at ls t → unfinished ls x t ≡ true
+  left x t h = lt-ltb (at x t) (at ls t) h
+
+  can-reach : (x : State) → InGrid ls x → CanEnd ls (permitted s) x → ReachesEnd s x
+  can-reach x g (ended e) = ([], of-states ls .end x g .0 e)
+  can-reach x g (step t a c) =
+      let q = and-true (unfinished ls x t) (permitted s (next x t)) a in
+      let r = can-reach (next x t) (next-grid ls x g t (q .0)) c in
+      (t ∷ r .0, (ltb-true (at x t) (at ls t) (q .0), q .1, r .1))
+
+  reach-can : (x : State) → InGrid ls x → (ts : List ℕ) → Leads s x ts ls → CanEnd ls (permitted s) x
+  reach-can x g [] e = ended (of-states ls .end x g .1 e)
+  reach-can x g (t ∷ ts) l =
+      let u = left x t (l .0) in
+      step {x = x} t (rw (u, l .1)) (reach-can (next x t) (next-grid ls x g t u) ts (l .2))
+
+  can-end : (x : State) → InGrid ls x → CanEnd ls (permitted s) x ↔ ReachesEnd s x
+  can-end x g = (can-reach x g, (λ r. reach-can x g (r .0) (r .1)))
+
+  dead-is : (x : State) → InGrid ls x → Dead ls (permitted s) x → IsDead s x
+  dead-is x g d = record {
+    is-permitted = d .is-permitted;
+    not-the-end = λ e. true-not-false (isEnd ls x) (of-states ls .end x g .1 e) (d .not-the-end);
+    no-step = λ t h. by-test (permitted s (next x t)) (λ p. absurd (d .no-step t (rw (left x t h, p)))) (λ p. p);
+  }
+
+  is-dead : (x : State) → InGrid ls x → IsDead s x → Dead ls (permitted s) x
+  is-dead x g d = record {
+    is-permitted = d .is-permitted;
+    not-the-end = by-test (isEnd ls x) (λ e. absurd (d .not-the-end (of-states ls .end x g .0 e))) (λ e. e);
+    no-step = λ t a.
+        let q = and-true (unfinished ls x t) (permitted s (next x t)) a in
+        true-not-false (permitted s (next x t)) (q .1) (d .no-step t (ltb-true (at x t) (at ls t) (q .0)));
+  }
+
+  pub dead-both : (x : State) → InGrid ls x → Dead ls (permitted s) x ↔ IsDead s x
+  dead-both x g = (dead-is x g, is-dead x g)
+
+  abbrev someAllowed : State → Bool
+  someAllowed x = any (length ls) (allowed ls (permitted s) x)
+
+  -- an unsafe state without an allowed step is dead
+  stuck : (x : State) → IsUnsafe s x → someAllowed x ≡ false → IsDead s x
+  stuck x u e = record {
+    is-permitted = u .0;
+    not-the-end = λ q. u .1 ([], q);
+    no-step = λ t l.
+        by-test (permitted s (next x t))
+        (λ p. true-not-false (allowed ls (permitted s) x t) (rw (left x t l, p))
+        (any-false (length ls) (allowed ls (permitted s) x) e t (unfinished-task ls x t (left x t l))))
+        (λ p. p);
+  }
+
+  -- and with one it steps to an unsafe state, until no action is left
+  unsafe-dead : (k : ℕ) (x : State) → InGrid ls x → sum ls ≤ sum x + k → IsUnsafe s x → (ts : List ℕ) × (y : State) × Leads s x ts y × IsDead s y
+  unsafe-dead zero x g h u =
+      by-test (someAllowed x)
+      (λ e.
+      let r = any-true (length ls) (allowed ls (permitted s) x) e in
+      let q = and-true (unfinished ls x (r .0)) (permitted s (next x (r .0))) (r .2) in
+      absurd (omega (arith, sum-lt ls x g (r .0) (ltb-true (at x (r .0)) (at ls (r .0)) (q .0)))))
+      (λ e. ([], x, refl, stuck x u e))
+  unsafe-dead (suc k) x g h u =
+      by-test (someAllowed x)
+      (λ e.
+      let r = any-true (length ls) (allowed ls (permitted s) x) e in
+      let t = r .0 in
+      let q = and-true (unfinished ls x t) (permitted s (next x t)) (r .2) in
+      let l = ltb-true (at x t) (at ls t) (q .0) in
+      let n = next-grid ls x g t (q .0) in
+      let on = unsafe-dead k (next x t) n (omega (arith, sum-next x t (omega (arith, g .count)))) (q .1, λ w. u .1 (t ∷ w .0, (l, q .1, w .1))) in
+      (t ∷ on .0, on .1, (l, q .1, on .2), on .3))
+      (λ e. ([], x, refl, stuck x u e))
+
+pub map-right-holds : MapRight
+map-right-holds = record {
+  can-end = can-end;
+  dead = dead-both;
+  dead-unsafe = λ s x g d. (d .is-permitted, (λ r. dead-unsafe (lengthsOf s) (permitted s) x (is-dead s x g d) (can-end s x g .1 r)));
+  unsafe-dead = λ s x g. unsafe-dead s (sum (lengthsOf s)) x g (omega arith);
+}
+
+-- a slice that carries the map of a set has the right byte for each state
+pub bytes-right : (s : Set) (m : List ℕ) → Carries s m → Bytes s m
+bytes-right s m lent = record {
+  forbidden = λ x g. says x g .forbidden;
+  dead = λ x g. Iff·trans (says x g .dead) (dead-both s x g);
+  unsafe = λ x g.
+      let c = can-end s x g in
+      let d = dead-both s x g in
+      Iff·trans (says x g .unsafe)
+      ((λ u. ((u .0 .0, λ r. u .0 .1 (c .1 r)), λ e. u .1 (d .1 e))), (λ u. ((u .0 .0, λ r. u .0 .1 (c .0 r)), λ e. u .1 (d .0 e))));
+  open-state = λ x g.
+      let c = can-end s x g in
+      Iff·trans (says x g .open-state) ((λ o. (o .0, c .0 (o .1))), (λ o. (o .0, c .1 (o .1))));
+}
+  where
+    says : (x : State) → InGrid (lengthsOf s) x → Byte (lengthsOf s) (permitted s) x (at m (rank (lengthsOf s) x))
+    says x g = rw (lent .same (rank (lengthsOf s) x) (rank-lt (lengthsOf s) x g)) (map-right (lengthsOf s) (permitted s) x g)

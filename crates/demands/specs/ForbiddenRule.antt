@@ -1,0 +1,67 @@
+-- Document 01, "Forbidden boxes" (document 004, 5.1): which boxes a set has, and in which order; the table of task sets.
+use Prim.Native.Nat.{ℕ, zero, suc, _/_, _%_, _<_, _≤_}
+use mathlib.Core.Path.{_≡_}
+use mathlib.Core.Logic.{_↔_, _⊎_}
+use mathlib.Core.Bool.{true, cond}
+use mathlib.Core.List.{List, [], _∷_, List·Memᴰ, map}
+use lib.ListN.{length}
+use lib.Dec.{eqb, ltb}
+use Rattle.model.specs.Set.{Set, taskAt, at}
+use Rattle.model.specs.Layout.{WellFormed}
+use Rattle.model.specs.Box.{Box, side}
+use Rattle.model.specs.Forbidden.{Forbidden, forbidden}
+use Rattle.model.specs.TaskTable.{table}
+use Rattle.demands.specs.Terms.{_to_, before, Ordered}
+use Rattle.demands.specs.Holds.{IsHold}
+
+-- the tasks, ascending, that a box has over a hold, from task t on: a hold starts at 1 or later, and every other task is over 0 to L
+unfoldable pub tasksFrom : ℕ → Box → List ℕ
+tasksFrom t [] = []
+tasksFrom t (i ∷ b) = let rest = tasksFrom (suc t) b in cond (ltb 0 (i .low)) (t ∷ rest) rest
+
+-- the ascending task list of a box
+abbrev pub taskList : Box → List ℕ
+taskList b = tasksFrom 0 b
+
+-- a box for each device of capacity c, each set of c + 1 tasks and each choice of one hold in each: those tasks over their holds, every other over 0 to L
+pub record OfRule (s : Set) (f : Forbidden) : Type 0 where
+  pub device : f .device < length (s .capacities)
+  pub sides : length (f .box) ≡ length (s .tasks)
+  pub tasks : length (taskList (f .box)) ≡ suc (at (s .capacities) (f .device))
+  pub over-hold : (t : ℕ) → t < length (s .tasks) → 0 < side (f .box) t .low → IsHold (f .device) (taskAt s t) (side (f .box) t)
+  pub over-all : (t : ℕ) → t < length (s .tasks) → side (f .box) t .low ≡ 0 → side (f .box) t ≡ 0 to length (taskAt s t)
+
+-- where the boxes of a device with one task list start: a task's holds by rising position, the first task's weighing most
+abbrev pub lows : Box → List ℕ
+lows b = map (λ i. i .low) b
+
+-- the order: by device, then by task list, then by choice of holds
+abbrev pub Precedes : Forbidden → Forbidden → Type 0
+Precedes f g =
+    (f .device < g .device)
+    ⊎ ((f .device ≡ g .device)
+    × ((before (taskList (f .box)) (taskList (g .box)) ≡ true)
+    ⊎ ((taskList (f .box) ≡ taskList (g .box)) × (before (lows (f .box)) (lows (g .box)) ≡ true))))
+
+-- the ascending task list of a byte with bit i for task i, of j bits from task t on
+unfoldable pub bitsFrom : ℕ → ℕ → ℕ → List ℕ
+bitsFrom zero t m = []
+bitsFrom (suc j) t m = let rest = bitsFrom j (suc t) (m / 2) in cond (eqb (m % 2) 1) (t ∷ rest) rest
+
+-- the ascending task list of a table entry
+abbrev pub tasksOf : ℕ → List ℕ
+tasksOf m = bitsFrom 8 0 m
+
+-- smaller sets first, equal sizes by their ascending task lists
+abbrev pub Smaller : ℕ → ℕ → Type 0
+Smaller m k =
+    (length (tasksOf m) < length (tasksOf k)) ⊎ ((length (tasksOf m) ≡ length (tasksOf k)) × (before (tasksOf m) (tasksOf k) ≡ true))
+
+pub record ForbiddenRule : Type 0 where
+  -- the forbidden boxes of a well-formed set are those of the rule, each once, in that order
+  pub rule : (s : Set) → WellFormed s → (f : Forbidden) → List·Memᴰ f (forbidden s) ↔ OfRule s f
+  pub order : (s : Set) → WellFormed s → Ordered Precedes (forbidden s)
+  -- the table has the 255 non-empty sets of eight tasks, each once, in that order
+  pub entries : length table ≡ 255
+  pub bytes : (m : ℕ) → List·Memᴰ m table → (1 ≤ m) × (m ≤ 255)
+  pub table-order : Ordered Smaller table

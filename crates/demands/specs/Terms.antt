@@ -1,0 +1,40 @@
+-- Words that several statements use, each by itself and not by the definitions that the statements are about.
+use Prim.Native.Nat.{ℕ, zero, suc, _+_, _<_}
+use mathlib.Core.Path.{_≡_}
+use mathlib.Core.Bool.{Bool, false, cond, _&&_, _||_}
+use mathlib.Core.List.{List, [], _∷_, _++_, List·Memᴰ}
+use lib.ListN.{getD}
+use lib.Dec.{eqb, ltb}
+use Rattle.model.specs.Set.{claim, release, Task}
+use Rattle.model.specs.Hold.{Interval}
+
+-- the positions from p to q
+infixl 80 _to_
+abbrev pub _to_ : ℕ → ℕ → Interval
+p to q = record { low = p; high = q }
+
+-- a list k times over, and then the rest
+unfoldable pub times : {A : Type 0} → ℕ → List A → List A → List A
+times zero l rest = rest
+times (suc k) l rest = l ++ times k l rest
+
+-- how many of the numbers below n pass f
+unfoldable pub howMany : ℕ → (ℕ → Bool) → ℕ
+howMany zero f = 0
+howMany (suc n) f = cond (f n) 1 0 + howMany n f
+
+-- x stands before y, the first number weighing most: at the first place where they differ, x has the lower number
+unfoldable pub before : List ℕ → List ℕ → Bool
+before [] y = false
+before (p ∷ x) [] = false
+before (p ∷ x) (q ∷ y) = ltb p q || (eqb p q && before x y)
+
+-- each entry of a list stands before every later one
+abbrev pub Ordered : {A : Type 0} → (A → A → Type 0) → List A → Type 0
+Ordered R [] = Unit {0}
+Ordered R (a ∷ l) = ((b : _) → List·Memᴰ b l → R a b) × Ordered R l
+
+-- after its first k actions a task holds device d: one of them claimed it, and none after that one released it
+abbrev pub StillHeld : ℕ → Task → ℕ → Type 0
+StillHeld d task k =
+    (p : ℕ) × (p < k) × (getD task p (claim 0) ≡ claim d) × ((q : ℕ) → p < q → q < k → getD task q (claim 0) ≡ release d → ⊥)
