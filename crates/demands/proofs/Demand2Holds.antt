@@ -1,21 +1,27 @@
 -- Demand 2 holds.
-use Prim.Native.Nat.{ℕ}
+use Prim.Native.Nat.{ℕ, _<_}
 use mathlib.Core.Path.{_≡_, refl, ap, _∙_}
+use mathlib.Core.Logic.{_↔_, Iff·trans}
 use mathlib.Core.List.{List}
 use lib.ListN.{length, drop}
-use Rattle.model.specs.Set.{Set, lengthsOf}
+use Rattle.model.specs.Set.{Set, lengthsOf, size}
+use Rattle.model.specs.State.{stateAt}
 use Rattle.model.specs.Read.{setIn}
 use Rattle.model.specs.Hold.{permitted}
+use Rattle.model.specs.Run.{Dead}
 use Rattle.model.specs.Plan.{planOf, planWords, planFrom}
 use Rattle.model.specs.Answer.{planned}
 use Rattle.model.specs.Analysis.{analyse}
+use Rattle.model.proofs.Ranks.{stateAt-grid}
 use Rattle.model.proofs.ForbiddenExact.{forbidden-exact}
 use Rattle.model.proofs.DeadRanks.{dead-ascending, dead-exact}
 use Rattle.model.proofs.PlanFitting.{plan-of-back}
 use Rattle.model.proofs.ReadAccepts.{read-complete, encode-injective}
 use Rattle.model.proofs.ReadExact.{read-sound}
-use Rattle.demands.specs.Demand2.{PlanExact, Demand2}
 use Rattle.model.proofs.Outcome.{accepted-made}
+use Rattle.demands.specs.Demand2.{PlanExact, Demand2}
+use Rattle.demands.specs.MapDemand.{IsDead}
+use Rattle.demands.proofs.MapHolds.{dead-both}
 
 -- the plan of a set is exact
 plan-exact : (s : Set) → PlanExact s (planOf s)
@@ -23,7 +29,11 @@ plan-exact s = record {
   rule = refl;
   exact = forbidden-exact s;
   rising = dead-ascending (lengthsOf s) (permitted s);
-  listed = dead-exact (lengthsOf s) (permitted s);
+  listed = λ r.
+      let ls = lengthsOf s in
+      let x = stateAt ls r in
+      let both : r < size ls → Dead ls (permitted s) x ↔ IsDead s x = λ h. dead-both s x (stateAt-grid ls r h) in
+      Iff·trans (dead-exact ls (permitted s) r) ((λ d. (d .0, both (d .0) .0 (d .1))), (λ d. (d .0, both (d .0) .1 (d .1))));
 }
 
 -- an accepted analysis leaves the plan of the set that the words declare

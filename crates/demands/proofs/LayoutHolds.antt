@@ -40,7 +40,7 @@ fits-balanced d h (a ∷ task) f c =
     ∙ fits-balanced d (heldAfter d h (a ∷ [])) task (λ p l e. sym (held-on d h a (take p task)) ∙ f (suc p) (omega arith) e) (sym (held-on d h a task) ∙ c)
 
 -- an action claims or releases
-by-action : {G : Type 0} (a : Action) → ((d : ℕ) → a ≡ claim d → G) → ((d : ℕ) → a ≡ release d → G) → G
+pub by-action : {G : Type 0} (a : Action) → ((d : ℕ) → a ≡ claim d → G) → ((d : ℕ) → a ≡ release d → G) → G
 by-action (claim d) p q = p d refl
 by-action (release d) p q = q d refl
 

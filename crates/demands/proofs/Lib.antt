@@ -14,8 +14,12 @@ pub mod TableList
 pub mod ForbiddenRuleHolds
 pub mod MapHolds
 pub mod UnsafeRuleHolds
+pub mod AnalysesHold
+pub mod Placed
 pub mod Demand2Holds
 pub mod Demand3Holds
 pub mod RouteSmallest
+pub mod CallsHold
+pub mod ServiceHolds
 pub mod RouteDemandHolds
 pub mod RefusalsHold

@@ -11,7 +11,7 @@ use Rattle.model.specs.Test.{any}
 use Rattle.model.specs.Set.{Set, lengthsOf, at}
 use Rattle.model.specs.State.{State, InGrid, next, unfinished, isEnd, sum, rank}
 use Rattle.model.specs.Hold.{permitted}
-use Rattle.model.specs.Run.{CanEnd, ended, step, allowed, Dead}
+use Rattle.model.specs.Run.{CanEnd, ended, step, allowed, Open, Dead}
 use Rattle.model.specs.Map.{Byte}
 use Rattle.model.proofs.Tests.{by-test, true-not-false, and-true, any-true, any-false}
 use Rattle.model.proofs.States.{unfinished-task, next-grid}
@@ -20,7 +20,7 @@ use Rattle.model.proofs.Sums.{sum-next, sum-lt}
 use Rattle.model.proofs.Byte.{dead-unsafe}
 use Rattle.model.proofs.MapExact.{map-right}
 use Rattle.model.proofs.Records.{Carries}
-use Rattle.demands.specs.MapDemand.{Leads, ReachesEnd, IsDead, IsUnsafe, Bytes, MapRight}
+use Rattle.demands.specs.MapDemand.{Leads, ReachesEnd, IsDead, IsOpen, IsUnsafe, Bytes, MapRight}
 use Rattle.demands.proofs.StatesHold.{of-states}
 
 module _ (s : Set) where
@@ -44,7 +44,7 @@ module _ (s : Set) where
       let u = left x t (l .0) in
       step {x = x} t (rw (u, l .1)) (reach-can (next x t) (next-grid ls x g t u) ts (l .2))
 
-  can-end : (x : State) → InGrid ls x → CanEnd ls (permitted s) x ↔ ReachesEnd s x
+  pub can-end : (x : State) → InGrid ls x → CanEnd ls (permitted s) x ↔ ReachesEnd s x
   can-end x g = (can-reach x g, (λ r. reach-can x g (r .0) (r .1)))
 
   dead-is : (x : State) → InGrid ls x → Dead ls (permitted s) x → IsDead s x
@@ -110,6 +110,10 @@ map-right-holds = record {
   unsafe-dead = λ s x g. unsafe-dead s (sum (lengthsOf s)) x g (omega arith);
 }
 
+-- an open state, by the definitions of Run and by its steps
+pub open-both : (s : Set) (x : State) → InGrid (lengthsOf s) x → Open (lengthsOf s) (permitted s) x ↔ IsOpen s x
+open-both s x g = let c = can-end s x g in ((λ o. (o .0, c .0 (o .1))), (λ o. (o .0, c .1 (o .1))))
+
 -- a slice that carries the map of a set has the right byte for each state
 pub bytes-right : (s : Set) (m : List ℕ) → Carries s m → Bytes s m
 bytes-right s m lent = record {
@@ -120,9 +124,8 @@ bytes-right s m lent = record {
       let d = dead-both s x g in
       Iff·trans (says x g .unsafe)
       ((λ u. ((u .0 .0, λ r. u .0 .1 (c .1 r)), λ e. u .1 (d .1 e))), (λ u. ((u .0 .0, λ r. u .0 .1 (c .0 r)), λ e. u .1 (d .0 e))));
-  open-state = λ x g.
-      let c = can-end s x g in
-      Iff·trans (says x g .open-state) ((λ o. (o .0, c .0 (o .1))), (λ o. (o .0, c .1 (o .1))));
+  open-state = λ x g. Iff·trans (says x g .open-state) (open-both s x g);
+  no-other = λ x g. says x g .small;
 }
   where
     says : (x : State) → InGrid (lengthsOf s) x → Byte (lengthsOf s) (permitted s) x (at m (rank (lengthsOf s) x))

@@ -5,12 +5,11 @@ use mathlib.Core.Path.{_≡_, sym, ap, _∙_}
 use mathlib.Core.Logic.{_⊎_, inl, inr}
 use mathlib.Core.Bool.{true, false}
 use mathlib.Core.List.{List}
-use lib.ListN.{length, take, drop, length-map, List·getD-eq-default}
-use lib.Seq.{getD-take, take-at, length-take-le}
+use lib.ListN.{length, take, drop}
+use lib.Seq.{take-at}
 use lib.Dec.{eqb, ltb}
 use borrow.Author.Tests.{ltb-true, ltb-false, le-ltb, lt-ltb, eqb-true, eqb-false, ne-eqb}
 use Rattle.model.specs.Set.{Set, lengthsOf, at, size}
-use Rattle.model.specs.Layout.{WellFormed}
 use Rattle.model.specs.State.{State, next, unfinished, sum, rank, InGrid}
 use Rattle.model.specs.Hold.{permitted}
 use Rattle.model.specs.Run.{Open, Unsafe}
@@ -20,7 +19,7 @@ use Rattle.model.specs.Answer.{routed, refused}
 use Rattle.model.specs.Analysis.{over, analyse}
 use Rattle.model.specs.Broker.{Record, stateIn, misplaced}
 use Rattle.model.specs.Route.{stepsFrom, walked, Routed, refuse, routeFrom, routeSet, routeReading, route}
-use Rattle.model.proofs.Tests.{by-test, true-not-false, any-false}
+use Rattle.model.proofs.Tests.{by-test, true-not-false}
 use Rattle.model.proofs.States.{next-grid}
 use Rattle.model.proofs.Moves.{moves}
 use Rattle.model.proofs.Ranks.{rank-lt}
@@ -30,26 +29,9 @@ use Rattle.model.proofs.Records.{Carries, map-length, over-carries}
 use Rattle.model.proofs.ReadExact.{read-sound}
 use Rattle.model.proofs.RouteOpen.{Leads, route-leads}
 use Rattle.demands.specs.RouteDemand.{MapMade, actionsLeft, Arrives, RouteRight, RouteDemand}
+use Rattle.demands.proofs.Placed.{placed-grid}
 use Rattle.demands.proofs.RouteSmallest.{walk-smallest}
 use Rattle.model.proofs.Outcome.{Mapped, accepted-made, short-made}
-
--- a record whose positions are in place gives a state of the grid
-placed-grid : (s : Set) → WellFormed s → (r : Record) → length (r .positions) ≡ 8 → misplaced s r ≡ false → InGrid (lengthsOf s) (stateIn s r)
-unfolding misplaced
-placed-grid s w r full placed = record {
-  count = few ∙ sym (length-map (s .tasks) length);
-  fits = λ t. by-test (ltb t (length (s .tasks)))
-      (λ e.
-      let h = ltb-true t (length (s .tasks)) e in
-      rw (getD-take (length (s .tasks)) (r .positions) t 0 h)
-      (ltb-false (at (lengthsOf s) t) (at (r .positions) t) (any-false 8 _ placed t (omega (arith, w .tasks)))))
-      (λ e.
-      let h = ltb-false t (length (s .tasks)) e in
-      rw (List·getD-eq-default (stateIn s r) 0 {n = t} (omega (arith, few))) (omega arith));
-}
-  where
-    few : length (stateIn s r) ≡ length (s .tasks)
-    few = length-take-le (length (s .tasks)) (r .positions) (omega (arith, w .tasks))
 
 routed-not-refused : {n p q : ℕ} {G : Type 0} → routed n ≡ refused p q → G
 routed-not-refused e = let z : _≡_ {A = ℕ} 0 1 = cc in absurd (omega arith)

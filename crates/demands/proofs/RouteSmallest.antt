@@ -16,7 +16,7 @@ use Rattle.model.proofs.Moves.{moves}
 
 module _ (ls m : List ℕ) where
   -- no task before the one that the search finds has such a step
-  smaller : (x : State) (k t u : ℕ) → t ≤ u → u < stepFrom ls m k t x → moves ls m x u ≡ false
+  pub smaller : (x : State) (k t u : ℕ) → t ≤ u → u < stepFrom ls m k t x → moves ls m x u ≡ false
   unfolding stepFrom
   smaller x zero t u l h = absurd (omega arith)
   smaller x (suc k) t u l h =

@@ -9,13 +9,13 @@ use Rattle.model.specs.Set.{Set, lengthsOf, size}
 use Rattle.model.specs.Layout.{encode, WellFormed}
 use Rattle.model.specs.Read.{reads, read, setIn}
 use Rattle.model.specs.State.{State, stateAt, InGrid}
-use Rattle.model.specs.Hold.{permitted, Overfull}
-use Rattle.model.specs.Run.{Dead}
+use Rattle.model.specs.Hold.{Overfull}
 use Rattle.model.specs.Box.{covered}
 use Rattle.model.specs.Forbidden.{forbidden, boxes}
 use Rattle.model.specs.Plan.{AscendingFrom, Plan, planFrom}
 use Rattle.model.specs.Answer.{planned}
 use Rattle.model.specs.Analysis.{analyse}
+use Rattle.demands.specs.MapDemand.{IsDead}
 
 -- first part: the sets of the layout and no others
 pub record LayoutExact : Type 0 where
@@ -34,7 +34,7 @@ pub record PlanExact (s : Set) (p : Plan) : Type 0 where
   pub exact : (x : State) → InGrid (lengthsOf s) x → (covered (boxes (p .forbidden)) x ≡ true) ↔ Overfull s x
   -- the dead states are listed by strictly rising rank, and these are all
   pub rising : AscendingFrom 0 (p .dead)
-  pub listed : (r : ℕ) → List·Memᴰ r (p .dead) ↔ ((r < size (lengthsOf s)) × Dead (lengthsOf s) (permitted s) (stateAt (lengthsOf s) r))
+  pub listed : (r : ℕ) → List·Memᴰ r (p .dead) ↔ ((r < size (lengthsOf s)) × IsDead s (stateAt (lengthsOf s) r))
 
 -- demand 2
 pub record Demand2 : Type 0 where

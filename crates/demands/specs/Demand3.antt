@@ -2,25 +2,22 @@
 -- lies in no box and its grant number counts the grants modulo 2^32; as many rounds of bids as the set has actions bring every task home.
 use Prim.Native.Nat.{ℕ, _%_, _≤_}
 use mathlib.Core.Path.{_≡_}
-use mathlib.Core.Logic.{_↔_, _⊎_}
+use mathlib.Core.Logic.{_↔_}
 use mathlib.Core.Bool.{true, false}
 use mathlib.Core.List.{List, List·Memᴰ}
 use lib.ListN.{length}
-use Rattle.model.specs.Set.{Set, lengthsOf, at}
-use Rattle.model.specs.Read.{setIn}
-use Rattle.model.specs.State.{State, isEnd, sum, rank, InGrid}
+use Rattle.model.specs.Set.{Set, lengthsOf}
+use Rattle.model.specs.Read.{reads, read, setIn}
+use Rattle.model.specs.State.{State, sum, InGrid}
 use Rattle.model.specs.Hold.{permitted}
-use Rattle.model.specs.Run.{CanEnd, Open}
 use Rattle.model.specs.Box.{covered}
 use Rattle.model.specs.Forbidden.{boxes}
 use Rattle.model.specs.Plan.{Plan, planFrom}
 use Rattle.model.specs.Answer.{planned, refused}
 use Rattle.model.specs.Analysis.{analyse}
 use Rattle.model.specs.Broker.{fresh, Call, stateIn, afterCalls, grantCount, IsRound, roundCalls}
-
--- allowed steps lead from a state of the set to the end
-abbrev pub CanReachEnd : Set → State → Type 0
-CanReachEnd s x = CanEnd (lengthsOf s) (permitted s) x
+use Rattle.demands.specs.MapDemand.{ReachesEnd, IsOpen, Bytes}
+use Rattle.demands.specs.Analyses.{OfAnalysis}
 
 -- the state after a list of calls from a fresh record, each bid lent these words and this map, each again these words
 abbrev pub stateAfter : List ℕ → List ℕ → List Call → State
@@ -28,30 +25,28 @@ stateAfter words map cs = stateIn (setIn words) (afterCalls words map fresh cs)
 
 -- what holds of the map slice that an analysis of the words leaves, whether the plan fitted (accepted) or not (14)
 pub record OfMap (words map : List ℕ) : Type 0 where
-  -- the byte of a permitted state is 2 or 3 exactly if no sequence of allowed steps leads from it to the end, and otherwise 0
-  pub unsafe-byte : (x : State) → InGrid (lengthsOf (setIn words)) x → permitted (setIn words) x ≡ true
-      → ((at map (rank (lengthsOf (setIn words)) x) ≡ 2) ⊎ (at map (rank (lengthsOf (setIn words)) x) ≡ 3)) ↔ (CanReachEnd (setIn words) x → ⊥)
-  pub open-byte : (x : State) → InGrid (lengthsOf (setIn words)) x → permitted (setIn words) x ≡ true
-      → (at map (rank (lengthsOf (setIn words)) x) ≡ 0) ↔ CanReachEnd (setIn words) x
+  -- each state of the grid has its byte
+  pub bytes : Bytes (setIn words) map
   -- after every list of bids and agains, refused ones among them, the state is open (so it is too at the start and after each call: every beginning of a list is one)
-  pub open-after : (cs : List Call) → InGrid (lengthsOf (setIn words)) (stateAfter words map cs)
-      × Open (lengthsOf (setIn words)) (permitted (setIn words)) (stateAfter words map cs)
+  pub open-after : (cs : List Call) → InGrid (lengthsOf (setIn words)) (stateAfter words map cs) × IsOpen (setIn words) (stateAfter words map cs)
   -- and the grant number is the number of bids answered Granted, modulo 2^32
   pub counted : (cs : List Call) → afterCalls words map fresh cs .grants ≡ grantCount words map fresh cs % 0x100000000
   -- after at least as many rounds of bids as the set has actions every task is finished
   pub finished : (rs : List (List ℕ)) → ((r : List ℕ) → List·Memᴰ r rs → IsRound (length (setIn words .tasks)) r)
-      → sum (lengthsOf (setIn words)) ≤ length rs → isEnd (lengthsOf (setIn words)) (stateAfter words map (roundCalls rs)) ≡ true
+      → sum (lengthsOf (setIn words)) ≤ length rs → stateAfter words map (roundCalls rs) ≡ lengthsOf (setIn words)
 
 -- what holds besides of the plan p that an accepted analysis leaves
 pub record OfPlan (words map : List ℕ) (p : Plan) : Type 0 where
   -- a permitted state lies in an unsafe box exactly if no sequence of allowed steps leads from it to the end
   pub unsafe-box : (x : State) → InGrid (lengthsOf (setIn words)) x → permitted (setIn words) x ≡ true
-      → (covered (p .unsafe) x ≡ true) ↔ (CanReachEnd (setIn words) x → ⊥)
+      → (covered (p .unsafe) x ≡ true) ↔ (ReachesEnd (setIn words) x → ⊥)
   -- after every list of bids and agains the state lies in no box
   pub no-box : (cs : List Call) → (covered (boxes (p .forbidden)) (stateAfter words map cs) ≡ false) × (covered (p .unsafe) (stateAfter words map cs) ≡ false)
 
 -- for all words and all slices lent to an analysis of them, with the slices as it leaves them, the plan read back up to its kind 5
 pub record Demand3 : Type 0 where
+  -- an analysis of a set is accepted exactly if its map and plan have room in the slices, so that nothing below is said of no set
+  pub answers : (words : List ℕ) (s : Set) → read words ≡ reads s → OfAnalysis words s
   pub accepted : (words map plan : List ℕ) (n : ℕ) → analyse words map plan .answer ≡ planned n
       → OfMap words (analyse words map plan .map) × OfPlan words (analyse words map plan .map) (planFrom (analyse words map plan .plan))
   pub plan-too-short : (words map plan : List ℕ) (place : ℕ) → analyse words map plan .answer ≡ refused 14 place → OfMap words (analyse words map plan .map)

@@ -1,5 +1,5 @@
 -- Document 01, "The map": open, unsafe and dead states, and what each byte of the map says.
-use Prim.Native.Nat.{ℕ, _<_}
+use Prim.Native.Nat.{ℕ, _<_, _≤_}
 use mathlib.Core.Path.{_≡_}
 use mathlib.Core.Logic.{_↔_}
 use mathlib.Core.Bool.{true, false}
@@ -33,12 +33,13 @@ module _ (s : Set) where
   abbrev pub IsUnsafe : State → Type 0
   IsUnsafe x = (permitted s x ≡ true) × (ReachesEnd x → ⊥)
 
-  -- a slice with one byte for each state, at its rank: 1 forbidden; 3 dead; 2 unsafe but not dead; 0 open
+  -- a slice with one byte for each state, at its rank: 1 forbidden; 3 dead; 2 unsafe but not dead; 0 open; no other
   pub record Bytes (map : List ℕ) : Type 0 where
     pub forbidden : (x : State) → InGrid (lengthsOf s) x → (at map (rank (lengthsOf s) x) ≡ 1) ↔ (permitted s x ≡ false)
     pub dead : (x : State) → InGrid (lengthsOf s) x → (at map (rank (lengthsOf s) x) ≡ 3) ↔ IsDead x
     pub unsafe : (x : State) → InGrid (lengthsOf s) x → (at map (rank (lengthsOf s) x) ≡ 2) ↔ (IsUnsafe x × (IsDead x → ⊥))
     pub open-state : (x : State) → InGrid (lengthsOf s) x → (at map (rank (lengthsOf s) x) ≡ 0) ↔ IsOpen x
+    pub no-other : (x : State) → InGrid (lengthsOf s) x → at map (rank (lengthsOf s) x) ≤ 3
 
 -- of the states of a set's grid
 pub record MapRight : Type 0 where

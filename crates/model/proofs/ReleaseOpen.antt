@@ -4,11 +4,11 @@ use native.Mathlib.Omega.{arith}
 use mathlib.Core.Path.{_≡_, refl, sym, ap, _∙_}
 use mathlib.Core.Bool.{true, false, not, _&&_}
 use mathlib.Core.List.{List, [], _∷_, _++_}
-use lib.ListN.{length, getD, take, length-map}
+use lib.ListN.{length, getD, take, length-map, List·getD-map}
 use lib.Seq.{take-suc}
 use lib.Dec.{eqb}
 use borrow.Author.Tests.{ltb-true, eqb-true, eqb-false}
-use Rattle.model.specs.Set.{claim, release, Task, Set, lengths, lengthsOf, taskAt, actionAt, at}
+use Rattle.model.specs.Set.{claim, release, Task, Set, lengthsOf, taskAt, actionAt, at}
 use Rattle.model.specs.Layout.{WellFormed}
 use Rattle.model.specs.Read.{heldAfter}
 use Rattle.model.specs.State.{State, InGrid, next, unfinished}
@@ -54,18 +54,13 @@ module _ (s : Set) (w : WellFormed s) where
   abbrev ls : List ℕ
   ls = lengthsOf s
 
-  length-at : (ts : List Task) (t : ℕ) → at (lengths ts) t ≡ length (getD ts t [])
-  length-at [] t = refl
-  length-at (u ∷ ts) zero = refl
-  length-at (u ∷ ts) (suc t) = length-at ts t
-
   module _ (t d : ℕ) where
     -- a release leads from a permitted state to a permitted one
     pub release-permitted : (x : State) → unfinished ls x t ≡ true → actionAt s t (at x t) ≡ release d → permitted s x ≡ true → permitted s (next x t) ≡ true
     release-permitted x u a p =
         let task = taskAt s t in
         let h = w .each-task t (omega (arith, length-map (s .tasks) length, unfinished-task ls x t u)) .balance in
-        let l : at x t < length task = omega (arith, ltb-true (at x t) (at ls t) u, length-at (s .tasks) t) in
+        let l : at x t < length task = omega (arith, ltb-true (at x t) (at ls t) u, List·getD-map length (s .tasks) t []) in
         permitted-intro s (next x t) λ e k.
         let units = release-units e d (at x t) task
         (λ c. holds-walk c (at x t) task (h c) (omega arith)) (λ c. holds-walk c (suc (at x t)) task (h c) l) l a in

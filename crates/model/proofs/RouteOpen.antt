@@ -29,7 +29,7 @@ module _ (ls m : List ℕ) (x : State) where
       by-test (moves ls m x t) (λ e. rw (e, e)) (λ e. rw e (step-lands k (suc t) (omega (arith, rw e at h))))
 
   -- and where a task has one, the search finds one
-  step-found : (k t u : ℕ) → t ≤ u → u < t + k → moves ls m x u ≡ true → stepFrom ls m k t x < t + k
+  pub step-found : (k t u : ℕ) → t ≤ u → u < t + k → moves ls m x u ≡ true → stepFrom ls m k t x < t + k
   unfolding stepFrom
   step-found zero t u l h e = absurd (omega arith)
   step-found (suc k) t u l h e =
