@@ -1,10 +1,11 @@
 -- The analysis answers and leaves what document 01 says, case by case.
-use Prim.Native.Nat.{ℕ, zero, suc, _+_, _-_, _*_}
+use Prim.Native.Nat.{ℕ, zero, suc, _+_, _-_, _*_, _≤_}
 use native.Mathlib.Omega.{arith}
-use mathlib.Core.Path.{_≡_}
+use mathlib.Core.Path.{_≡_, ap, _∙_}
 use mathlib.Core.List.{List, [], _∷_, _++_, map}
 use lib.ListN.{length, length-append, length-map}
-use borrow.Author.Tests.{lt-ltb, le-ltb}
+use lib.Dec.{ltb}
+use borrow.Author.Tests.{ltb-true, ltb-false, lt-ltb, le-ltb}
 use Rattle.model.specs.Set.{Set, lengthsOf, size}
 use Rattle.model.specs.State.{stateAt}
 use Rattle.model.specs.Layout.{word, WellFormed}
@@ -12,8 +13,8 @@ use Rattle.model.specs.Read.{reads, read}
 use Rattle.model.specs.Box.{Box}
 use Rattle.model.specs.Forbidden.{Forbidden, forbidden, forbiddenBoxes}
 use Rattle.model.specs.UnsafeBoxes.{getsBox, unsafeBox, lastUnsafe, unsafeBoxes}
-use Rattle.model.specs.Plan.{DEAD-STATE, sideWords, forbiddenWords, unsafeWords, planOf, deadOf, unsafeOf}
-use Rattle.model.specs.Analysis.{analyseSet, analyseReading}
+use Rattle.model.specs.Plan.{DEAD-STATE, sideWords, forbiddenWords, unsafeWords, planOf, deadOf, unsafeOf, mapOf}
+use Rattle.model.specs.Analysis.{Analysed, over, analyse, analyseSet, analyseReading}
 use Rattle.model.proofs.Tests.{by-test}
 use Rattle.model.proofs.Each.{Each, each-append}
 use Rattle.model.proofs.UnsafeBox.{box-count}
@@ -79,6 +80,14 @@ module _ (words : List ℕ) (s : Set) (is-read : read words ≡ reads s) where
     made = λ m p h l.
         rw (is-read, le-ltb (length m) (size (lengthsOf s)) h, le-ltb (length p) (planLength s) l, map-length s);
   }
+
+-- an analysis with room for the map leaves it at the slice's front, whether the plan fits or not
+pub map-left : (words map plan : List ℕ) (s : Set) → read words ≡ reads s → size (lengthsOf s) ≤ length map → analyse words map plan .map ≡ over (mapOf s) map
+map-left words map plan s e h =
+    let of = of-analysis words s e in
+    by-test (ltb (length plan) (planLength s))
+    (λ k. ap (λ (a : Analysed). a .map) (of .plan-short map plan h (ltb-true (length plan) (planLength s) k)) ∙ rw (map-length s))
+    (λ k. ap (λ (a : Analysed). a .map) (of .made map plan h (ltb-false (length plan) (planLength s) k)) ∙ rw (map-length s))
 
 pub analyses-hold : Analyses
 analyses-hold = record { analyses = of-analysis }

@@ -21,12 +21,11 @@ use Rattle.model.proofs.Tests.{by-test, true-not-false, and-true, or-right}
 use Rattle.model.proofs.States.{unfinished-task, next-grid}
 use Rattle.model.proofs.Sums.{sum-next, sum-le, sum-lt}
 use Rattle.model.proofs.Moves.{moves}
-use Rattle.model.proofs.RouteOpen.{step-lands, step-found}
+use Rattle.model.proofs.RouteStep.{step-lands, step-found, step-smallest}
 use Rattle.model.proofs.ReadExact.{read-sound}
 use Rattle.demands.specs.Calls.{noRoute, OfFaulty, OfState, OfAgain, byteOf, Ready, Misplaced, OfBid, Names, unchanged, Walk, stops, goes, Walks, OfRoute, OfLists, Calls}
 use Rattle.demands.proofs.StatesHold.{of-states}
 use Rattle.demands.proofs.Placed.{length-at, told-misplaced, in-place, placed-grid}
-use Rattle.demands.proofs.RouteSmallest.{smaller}
 
 faults : (words : List ℕ) (n p : ℕ) → read words ≡ faulty n p → OfFaulty words n p
 unfolding analyseReading bidReading againReading routeReading
@@ -47,7 +46,7 @@ module _ (words : List ℕ) (s : Set) (is-read : read words ≡ reads s) (r : Re
   well-formed : WellFormed s
   well-formed = read-sound words s is-read .1
 
-  grid : (Misplaced s r → ⊥) → InGrid ls x
+  pub grid : (Misplaced s r → ⊥) → InGrid ls x
   grid p = placed-grid s well-formed r full (in-place s well-formed r p)
 
   of-state : OfState s r
@@ -141,7 +140,7 @@ module _ (words : List ℕ) (s : Set) (is-read : read words ≡ reads s) (r : Re
         (record {
           left = ltb-true (at y t) (at ls t) (q .0);
           lands = eqb-true (byteOf s m (next y t)) 0 (q .1);
-          none-smaller = λ u l i b. true-not-false (moves ls m y u) (onto y u i b) (smaller ls m y (length ls) 0 u (omega arith) l);
+          none-smaller = λ u l i b. true-not-false (moves ls m y u) (onto y u i b) (step-smallest ls m y (length ls) 0 u (omega arith) l);
         })
         (walk-is k (next y t) (next-grid ls y g t (q .0)) (omega (arith, sum-next y t (omega (arith, g .count)))))))
         (λ e. rw e (stops {y = y} λ u l b.
@@ -188,7 +187,7 @@ module _ (words : List ℕ) (s : Set) (is-read : read words ≡ reads s) (r : Re
           let b = byteOf s m x in
           rw (is-read, le-ltb (length m) (size ls) h, or-right (misplaced s r) (eqb b 1) (eq-eqb b 1 e))
 
-      of-route : OfRoute words s r m slice
+      pub of-route : OfRoute words s r m slice
       unfolding routeReading routeSet
       of-route = record {
         map-short = λ h. rw (is-read, lt-ltb (length m) (size ls) h);

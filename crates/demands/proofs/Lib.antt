@@ -18,7 +18,6 @@ pub mod AnalysesHold
 pub mod Placed
 pub mod Demand2Holds
 pub mod Demand3Holds
-pub mod RouteSmallest
 pub mod CallsHold
 pub mod ServiceHolds
 pub mod RouteDemandHolds

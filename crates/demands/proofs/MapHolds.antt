@@ -2,11 +2,12 @@
 use Prim.Native.Nat.{ℕ, zero, suc, _+_, _<_, _≤_}
 use native.Mathlib.Omega.{arith}
 use mathlib.Core.Path.{_≡_, refl}
-use mathlib.Core.Logic.{_↔_, Iff·trans}
+use mathlib.Core.Logic.{_↔_, Iff·trans, _⊎_, inl, inr}
 use mathlib.Core.Bool.{Bool, true, false}
 use mathlib.Core.List.{List, [], _∷_}
 use lib.ListN.{length}
-use borrow.Author.Tests.{ltb-true, lt-ltb}
+use lib.Dec.{eqb}
+use borrow.Author.Tests.{eqb-true, eqb-false, ltb-true, lt-ltb}
 use Rattle.model.specs.Test.{any}
 use Rattle.model.specs.Set.{Set, lengthsOf, at}
 use Rattle.model.specs.State.{State, InGrid, next, unfinished, isEnd, sum, rank}
@@ -130,3 +131,18 @@ bytes-right s m lent = record {
   where
     says : (x : State) → InGrid (lengthsOf s) x → Byte (lengthsOf s) (permitted s) x (at m (rank (lengthsOf s) x))
     says x g = rw (lent .same (rank (lengthsOf s) x) (rank-lt (lengthsOf s) x g)) (map-right (lengthsOf s) (permitted s) x g)
+
+-- the bytes of unsafe states are 2 and 3
+module _ (s : Set) (m : List ℕ) (b : Bytes s m) (x : State) (g : InGrid (lengthsOf s) x) where
+  abbrev own : ℕ
+  own = at m (rank (lengthsOf s) x)
+
+  pub unsafe-byte : IsUnsafe s x → (own ≡ 2) ⊎ (own ≡ 3)
+  unsafe-byte u =
+      let not-open : own ≡ 0 → ⊥ = λ e. u .1 (b .open-state x g .0 e .1) in
+      let not-forbidden : own ≡ 1 → ⊥ = λ e. true-not-false (permitted s x) (u .0) (b .forbidden x g .0 e) in
+      by-test (eqb own 2) (λ e. inl (eqb-true own 2 e)) (λ e. inr (omega (arith, b .no-other x g, not-open, not-forbidden, eqb-false own 2 e)))
+
+  pub byte-unsafe : (own ≡ 2) ⊎ (own ≡ 3) → IsUnsafe s x
+  byte-unsafe (inl e) = b .unsafe x g .0 e .0
+  byte-unsafe (inr e) = map-right-holds .dead-unsafe s x g (b .dead x g .0 e)

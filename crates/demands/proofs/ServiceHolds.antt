@@ -1,5 +1,5 @@
 -- The broker in service: what each bid and again answers, and that a release is always granted.
-use Prim.Native.Nat.{ℕ, _<_, _≤_}
+use Prim.Native.Nat.{ℕ, _<_}
 use native.Mathlib.Omega.{arith}
 use mathlib.Core.Path.{_≡_, ap, _∙_}
 use mathlib.Core.Logic.{_⊎_, inl, inr}
@@ -7,14 +7,12 @@ use mathlib.Core.List.{List}
 use lib.ListN.{length}
 use lib.Dec.{eqb, ltb}
 use borrow.Author.Tests.{ltb-true, ltb-false, lt-ltb, eqb-true, eqb-false}
-use Rattle.model.specs.Set.{claim, release, Set, lengthsOf, taskAt, actionAt, at, size}
+use Rattle.model.specs.Set.{claim, release, Set, lengthsOf, taskAt, actionAt, at}
 use Rattle.model.specs.Layout.{WellFormed}
 use Rattle.model.specs.State.{State, InGrid, next, isEnd, rank}
-use Rattle.model.specs.Hold.{permitted}
 use Rattle.model.specs.Read.{reads, read}
 use Rattle.model.specs.Answer.{granted, finished, busy, held, refused}
-use Rattle.model.specs.Plan.{mapOf}
-use Rattle.model.specs.Analysis.{Analysed, over, analyse}
+use Rattle.model.specs.Analysis.{analyse}
 use Rattle.model.specs.Broker.{Record, Served, fresh, grant, stateIn, misplaced, bid, again, serve, afterCalls}
 use Rattle.model.proofs.Tests.{by-test, by-cases, true-not-false}
 use Rattle.model.proofs.States.{next-grid}
@@ -24,13 +22,12 @@ use Rattle.model.proofs.ReleaseOpen.{release-open}
 use Rattle.model.proofs.ReadExact.{read-sound}
 use Rattle.demands.specs.MapDemand.{IsOpen, IsUnsafe, Bytes}
 use Rattle.demands.specs.Calls.{unchanged, byteOf, Ready, OfBid}
-use Rattle.demands.specs.Analyses.{planLength}
 use Rattle.demands.specs.Service.{OfService, Service}
 use Rattle.demands.proofs.StatesHold.{of-states}
 use Rattle.demands.proofs.LayoutHolds.{by-action}
 use Rattle.demands.proofs.Placed.{length-at, told-misplaced}
-use Rattle.demands.proofs.MapHolds.{open-both, bytes-right}
-use Rattle.demands.proofs.AnalysesHold.{of-analysis}
+use Rattle.demands.proofs.MapHolds.{open-both, bytes-right, unsafe-byte}
+use Rattle.demands.proofs.AnalysesHold.{map-left}
 use Rattle.demands.proofs.CallsHold.{of-bid, of-again}
 
 release-opens : (s : Set) → WellFormed s → (x : State) → InGrid (lengthsOf s) x → IsOpen s x
@@ -70,14 +67,7 @@ module _ (words m : List ℕ) (s : Set) (is-read : read words ≡ reads s) (lent
   to-open t l o = cases t .is-granted ready l (says .open-state (next x t) (grid-next t l) .1 o)
 
   to-unsafe : (t : ℕ) → at x t < length (taskAt s t) → IsUnsafe s (next x t) → bid words m r t ≡ unchanged (held (rank ls (next x t))) r
-  to-unsafe t l u =
-      let y = next x t in
-      let b = byteOf s m y in
-      let g = grid-next t l in
-      let not-open : b ≡ 0 → ⊥ = λ e. u .1 (says .open-state y g .0 e .1) in
-      let not-forbidden : b ≡ 1 → ⊥ = λ e. true-not-false (permitted s y) (u .0) (says .forbidden y g .0 e) in
-      cases t .is-held ready l
-      (by-test (eqb b 2) (λ e. inl (eqb-true b 2 e)) (λ e. inr (omega (arith, says .no-other y g, not-open, not-forbidden, eqb-false b 2 e))))
+  to-unsafe t l u = cases t .is-held ready l (unsafe-byte s m says (next x t) (grid-next t l) u)
 
   release-goes : (t d : ℕ) → at x t < length (taskAt s t) → actionAt s t (at x t) ≡ release d → bid words m r t ≡ record { answer = granted; after = grant r t }
   release-goes t d l a =
@@ -160,14 +150,6 @@ module _ (words m : List ℕ) (s : Set) (is-read : read words ≡ reads s) (lent
     busy-claim = busy-claim;
     held-claim = held-claim;
   }
-
--- an analysis with room for the map leaves it at the slice's front, whether the plan fits or not
-map-left : (words map plan : List ℕ) (s : Set) → read words ≡ reads s → size (lengthsOf s) ≤ length map → analyse words map plan .map ≡ over (mapOf s) map
-map-left words map plan s e h =
-    let of = of-analysis words s e in
-    by-test (ltb (length plan) (planLength s))
-    (λ k. ap (λ (a : Analysed). a .map) (of .plan-short map plan h (ltb-true (length plan) (planLength s) k)) ∙ rw (map-length s))
-    (λ k. ap (λ (a : Analysed). a .map) (of .made map plan h (ltb-false (length plan) (planLength s) k)) ∙ rw (map-length s))
 
 pub service-holds : Service
 service-holds = record {

@@ -2,57 +2,50 @@
 -- states only.
 use Prim.Native.Nat.{ℕ, _-_, _<_, _≤_}
 use mathlib.Core.Path.{_≡_}
-use mathlib.Core.Logic.{_↔_, _⊎_}
-use mathlib.Core.Bool.{true, false}
-use mathlib.Core.List.{List}
-use lib.ListN.{length, take}
-use Rattle.model.specs.Set.{Set, lengthsOf, at}
-use Rattle.model.specs.State.{State, next, unfinished, isEnd, sum, rank}
+use mathlib.Core.Bool.{false}
+use mathlib.Core.List.{List, [], _∷_, _++_}
+use lib.ListN.{length, drop}
+use Rattle.model.specs.Set.{Set, lengthsOf, at, size}
+use Rattle.model.specs.State.{State, next, sum, rank}
 use Rattle.model.specs.Hold.{permitted}
-use Rattle.model.specs.Run.{Open, Unsafe}
-use Rattle.model.specs.Read.{setIn}
-use Rattle.model.specs.Answer.{Answer, planned, routed, refused}
+use Rattle.model.specs.Read.{reads, read}
+use Rattle.model.specs.Answer.{routed, refused}
 use Rattle.model.specs.Analysis.{analyse}
-use Rattle.model.specs.Broker.{Record, stateIn, misplaced}
-use Rattle.model.specs.Route.{walked, Routed, route}
-
--- the analysis made the map: it is accepted, or refused with 14
-abbrev pub MapMade : Answer → Type 0
-MapMade a = ((n : ℕ) × (a ≡ planned n)) ⊎ ((p : ℕ) × (a ≡ refused 14 p))
+use Rattle.model.specs.Broker.{Record, stateIn}
+use Rattle.model.specs.Route.{Routed, route}
+use Rattle.demands.specs.MapDemand.{IsOpen, IsUnsafe}
+use Rattle.demands.specs.Calls.{Misplaced, noRoute}
 
 -- the actions left at a state
 abbrev pub actionsLeft : Set → State → ℕ
 actionsLeft s x = sum (lengthsOf s) - sum x
 
--- the steps lead from x to the end, as many as actions are left; every state on the way is open, and each step is the smallest task's that leads to an
--- open state
-pub record Arrives (s : Set) (x : State) (steps : List ℕ) : Type 0 where
-  pub count : length steps ≡ actionsLeft s x
-  pub ends : isEnd (lengthsOf s) (walked x steps) ≡ true
-  pub passes : (k : ℕ) → Open (lengthsOf s) (permitted s) (walked x (take k steps))
-  pub smallest : (k u : ℕ) → k < length steps → u < at steps k
-      → (let y = walked x (take k steps) in
-      unfinished (lengthsOf s) y u ≡ true → Open (lengthsOf s) (permitted s) (next y u) → ⊥)
+-- the steps lead from x to the end through open states, each that of the smallest task whose step leads to an open state
+abbrev pub Arrives : Set → State → List ℕ → Type 0
+Arrives s x [] = x ≡ lengthsOf s
+Arrives s x (t ∷ ts) =
+    (at x t < at (lengthsOf s) t)
+    × IsOpen s (next x t)
+    × ((u : ℕ) → u < t → at x u < at (lengthsOf s) u → IsOpen s (next x u) → ⊥)
+    × Arrives s (next x t) ts
 
--- the route out from the state x, whose own byte is b, in a slice of n bytes
-pub record RouteRight (s : Set) (x : State) (b n : ℕ) (out : Routed) : Type 0 where
-  -- the byte is 0 exactly at an open state
-  pub own-byte : (b ≡ 0) ↔ Open (lengthsOf s) (permitted s) x
-  -- from there, in a slice with room, the route's bytes lead to the end
-  pub arrives : b ≡ 0 → actionsLeft s x ≤ n
-      → (out .answer ≡ routed (actionsLeft s x)) × Arrives s x (take (actionsLeft s x) (out .route))
+-- the route out from the state x in a slice
+pub record RouteRight (s : Set) (x : State) (slice : List ℕ) (out : Routed) : Type 0 where
+  -- from an open state, in a slice with room: one byte for each action left, and beyond them the slice keeps its bytes
+  pub arrives : IsOpen s x → actionsLeft s x ≤ length slice
+      → (steps : List ℕ) × Arrives s x steps × (length steps ≡ actionsLeft s x)
+      × (out ≡ record { answer = routed (length steps); route = steps ++ drop (length steps) slice })
   -- a shorter slice is refused with the length needed
-  pub too-short : b ≡ 0 → n < actionsLeft s x → out .answer ≡ refused 21 (actionsLeft s x)
-  -- 20 is said of unsafe states only, at their rank
-  pub no-route : (p : ℕ) → out .answer ≡ refused 20 p
-      → ((b ≡ 2) ⊎ (b ≡ 3)) × Unsafe (lengthsOf s) (permitted s) x × (p ≡ rank (lengthsOf s) x)
+  pub too-short : IsOpen s x → length slice < actionsLeft s x → out ≡ noRoute 21 (actionsLeft s x) slice
+  -- an unsafe state has no route, and 20 is said of unsafe states only
+  pub no-route : IsUnsafe s x → out ≡ noRoute 20 (rank (lengthsOf s) x) slice
+  pub only-unsafe : (p : ℕ) → out .answer ≡ refused 20 p → IsUnsafe s x × (p ≡ rank (lengthsOf s) x)
+  -- a forbidden state is no record's
+  pub forbidden : permitted s x ≡ false → out ≡ noRoute 16 0 slice
 
 -- the route's demand
 pub record RouteDemand : Type 0 where
-  -- for all words and slices of an analysis that made the map, the map slice as it leaves it, and every record whose eight positions are in place
-  pub routes : (words map plan : List ℕ) → MapMade (analyse words map plan .answer)
-      → (r : Record) → length (r .positions) ≡ 8 → misplaced (setIn words) r ≡ false → (slice : List ℕ)
-      → (let s = setIn words in
-      let x = stateIn s r in
-      let m = analyse words map plan .map in
-      RouteRight s x (at m (rank (lengthsOf s) x)) (length slice) (route words m r slice))
+  -- for all words that read as a set and a map slice with room for its map, as the analysis leaves it, and every record whose eight positions are in place
+  pub routes : (words map plan : List ℕ) (s : Set) → read words ≡ reads s → size (lengthsOf s) ≤ length map
+      → (r : Record) → length (r .positions) ≡ 8 → (Misplaced s r → ⊥) → (slice : List ℕ)
+      → RouteRight s (stateIn s r) slice (route words (analyse words map plan .map) r slice)

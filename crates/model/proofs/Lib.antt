@@ -20,7 +20,7 @@ pub mod Sums
 pub mod Moves
 pub mod BrokerOpen
 pub mod Rounds
-pub mod RouteOpen
+pub mod RouteStep
 pub mod Each
 pub mod PlanBack
 pub mod PlanCount

@@ -13,7 +13,7 @@ use Rattle.model.specs.State.{State, next, unfinished, sum, rank, InGrid}
 use Rattle.model.specs.Route.{firstStep, walk, stepsFrom, walked}
 use Rattle.model.proofs.Tests.{and-true}
 use Rattle.model.proofs.Sums.{sum-next, sum-lt}
-use Rattle.model.proofs.RouteOpen.{step-lands}
+use Rattle.model.proofs.RouteStep.{step-lands}
 use Rattle.route.specs.Walks.{Walks}
 
 module _ (ls m : List ℕ) (x : State) where
