@@ -5,9 +5,11 @@ use mathlib.Core.Path.{_≡_, refl}
 use mathlib.Core.Bool.{Bool, false, cond}
 use mathlib.Core.List.{List, [], _∷_}
 use lib.ListN.{length, getD}
-use Rattle.model.specs.Set.{Task, lengths, taskAt, at}
-use Rattle.model.specs.State.{State, InGrid}
-use Rattle.model.specs.Hold.{holds, holding, held}
+use Rattle.model.specs.Test.{any}
+use Rattle.model.specs.Set.{Task, lengths, taskAt, at, size}
+use Rattle.model.specs.State.{State, InGrid, isEnd, weight, stateAt}
+use Rattle.model.specs.Hold.{heldTo, holdsFrom, holds, holding, held, permitted}
+use Rattle.model.specs.Map.{stepsOnto, byte, lastBytes, bytes}
 use Rattle.model.proofs.Ranks.{tail-grid}
 use Rattle.model.proofs.HoldWalk.{holds-walk}
 use Rattle.model.proofs.Permitted.{permitted-intro, permitted-fits}
@@ -31,7 +33,10 @@ count-holders d (task ∷ tasks) (p ∷ x) g =
     rw (count-holders d tasks x (tail-grid g), count-first (length tasks) (λ t. holding (holds d (getD (task ∷ tasks) t [])) (at (p ∷ x) t)))
 
 pub holds-hold : HoldsRight
+unfolding any size isEnd weight stateAt heldTo holdsFrom holding held permitted stepsOnto byte lastBytes bytes
 holds-hold = record {
+  twice-holds = refl;
+  twice-map = refl;
   holds-right = λ s w. record {
     after = λ t d k h l.
         let b = w .each-task t h .balance d in

@@ -1,5 +1,6 @@
 pub mod ExamplesHold
 pub mod PhilosophersHold
+pub mod PlansHold
 pub mod StillHeldSteps
 pub mod LayoutHolds
 pub mod ReadingHolds

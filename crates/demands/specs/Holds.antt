@@ -3,13 +3,14 @@ use Prim.Native.Nat.{ℕ, _-_, _<_, _≤_}
 use mathlib.Core.Path.{_≡_}
 use mathlib.Core.Logic.{_↔_}
 use mathlib.Core.Bool.{true}
-use mathlib.Core.List.{List·Memᴰ}
+use mathlib.Core.List.{[], _∷_, List·Memᴰ}
 use lib.ListN.{length, getD}
 use Rattle.model.specs.Set.{claim, release, Task, Set, lengthsOf, taskAt, at}
 use Rattle.model.specs.Layout.{WellFormed}
 use Rattle.model.specs.State.{State, InGrid}
 use Rattle.model.specs.Hold.{Interval, holds, holding, held, permitted}
-use Rattle.demands.specs.Terms.{howMany, Ordered, StillHeld}
+use Rattle.model.specs.Plan.{mapOf}
+use Rattle.demands.specs.Terms.{_to_, howMany, Ordered, StillHeld}
 
 -- a claim of device d that is the task's action p (counted from 1, so at place p - 1), released by action q, is a hold over positions p to q - 1
 pub record IsHold (d : ℕ) (task : Task) (i : Interval) : Type 0 where
@@ -35,5 +36,12 @@ pub record OfHolds (s : Set) : Type 0 where
   pub permits : (x : State)
       → (permitted s x ≡ true) ↔ ((d : ℕ) → d < length (s .capacities) → held d (s .tasks) x ≤ at (s .capacities) d)
 
+-- a task that claims device 0 twice, and one that claims it once, over capacity 1
+abbrev pub twice : Set
+twice = record { capacities = 1 ∷ []; tasks = (claim 0 ∷ release 0 ∷ claim 0 ∷ release 0 ∷ []) ∷ (claim 0 ∷ release 0 ∷ []) ∷ [] }
+
 pub record HoldsRight : Type 0 where
   pub holds-right : (s : Set) → WellFormed s → OfHolds s
+  -- each of the two holds counts: positions 1 and 3 are holds, and each is forbidden while the other task holds the device
+  pub twice-holds : holds 0 (taskAt twice 0) ≡ 1 to 1 ∷ 3 to 3 ∷ []
+  pub twice-map : mapOf twice ≡ 0 ∷ 0 ∷ 0 ∷ 0 ∷ 1 ∷ 0 ∷ 0 ∷ 0 ∷ 0 ∷ 0 ∷ 1 ∷ 0 ∷ 0 ∷ 0 ∷ 0 ∷ []

@@ -2,6 +2,7 @@
 pub mod Terms
 pub mod Examples
 pub mod Philosophers
+pub mod Plans
 pub mod Reading
 pub mod States
 pub mod Holds
