@@ -23,3 +23,4 @@ pub mod CallsHold
 pub mod ServiceHolds
 pub mod RouteDemandHolds
 pub mod RefusalsHold
+pub mod HostsHold

@@ -17,3 +17,4 @@ pub mod Answer
 pub mod Analysis
 pub mod Broker
 pub mod Route
+pub mod Told

@@ -1,7 +1,7 @@
 -- `arbiter::arbiter_read` meets its contract: the reading, as a host is told of it.
 use borrow.Author.Needs.{needs}
 use Rattle.reader.proofs.Facts.{accepted, refused}
-use Rattle.arbiter.specs.Told.{toldReading}
+use Rattle.model.specs.Told.{tellReading}
 use Rattle.arbiter.proofs.arbiter_read.Statement.{statement}
 use Rattle.arbiter.proofs.arbiter_read.Tie as tie
 
@@ -24,14 +24,14 @@ refuse-requires : tie.Need-refuse-requires
 refuse-requires c κs = search needs
 
 returns : tie.Need-returns
-unfolding toldReading
+unfolding tellReading
 returns c =
     let r = c .before .before .before .before .read in
     let set = accepted _ (r .result) (r .ensures) _ (c .before .before .verdict .given .1) in
     rw (set .set-read, ← set .grid) (c .valued .ensures)
 
 returns-2 : tie.Need-returns-2
-unfolding toldReading
+unfolding tellReading
 returns-2 c =
     let r = c .before .before .before .before .read in
     rw (refused _ (r .result) (r .ensures) _ _ (c .before .before .verdict2 .given .1)) (c .refuse .ensures)

@@ -1,7 +1,7 @@
 -- `arbiter::answers::of_service` meets its contract, case by case.
 use borrow.Author.Needs.{needs}
 use Rattle.broker.specs.Says.{answerOf}
-use Rattle.arbiter.specs.Told.{told}
+use Rattle.model.specs.Told.{tell}
 use Rattle.arbiter.proofs.answers.of_service.Statement.{statement}
 use Rattle.arbiter.proofs.answers.of_service.Tie as tie
 
@@ -45,23 +45,23 @@ refuse-requires : tie.Need-refuse-requires
 refuse-requires c κs = search needs
 
 returns : tie.Need-returns
-unfolding told answerOf
+unfolding tell answerOf
 returns c = rw (c .before .enum-told .given .1) (c .plain .ensures)
 
 returns-2 : tie.Need-returns-2
-unfolding told answerOf
+unfolding tell answerOf
 returns-2 c = rw (c .before .enum-told2 .given .1) (c .plain2 .ensures)
 
 returns-3 : tie.Need-returns-3
-unfolding told answerOf
+unfolding tell answerOf
 returns-3 c = rw (c .before .before .answer .given .1) (c .valued .ensures)
 
 returns-4 : tie.Need-returns-4
-unfolding told answerOf
+unfolding tell answerOf
 returns-4 c = rw (c .before .before .answer2 .given .1) (c .valued2 .ensures)
 
 returns-5 : tie.Need-returns-5
-unfolding told answerOf
+unfolding tell answerOf
 returns-5 c = rw (c .before .enum-told3 .given .1) (c .plain3 .ensures)
 
 returns-6 : tie.Need-returns-6
