@@ -64,6 +64,8 @@ impl std::fmt::Display for Sets {
 pub struct Checker {
     pub seen: Seen,
     pub sets: Sets,
+    /// Bids in service whose next action was a release.
+    pub releases: u64,
     /// Said first when something differs.
     pub input: String,
 }
@@ -120,7 +122,7 @@ struct Made<'a> {
 
 impl Checker {
     pub fn new() -> Checker {
-        Checker { seen: Seen::default(), sets: Sets::default(), input: String::new() }
+        Checker { seen: Seen::default(), sets: Sets::default(), releases: 0, input: String::new() }
     }
 
     /// Tells the whole case and ends the run.
@@ -201,6 +203,15 @@ impl Checker {
         self.alike(&made, "set", &set, &set_before);
         self.alike(&made, "map", &lent_map, &map_before);
         record_of(records.read()[0])
+    }
+
+    /// In service a release is always granted: the task has moved by its one step.
+    pub fn granted_release(&mut self, words: &[u32], task: usize, before: Record, after: Record) {
+        self.releases += 1;
+        if after.positions[task] != before.positions[task] + 1 {
+            let made = Made { call: Call::Bid, words, beside: format!(" of task {task} on {before:?}"), map: None };
+            self.fail(&made, "a release in service isn't granted".to_string());
+        }
     }
 
     pub fn again(&mut self, random: &mut Random, words: &[u32], worked: &Worked, record: Record) -> Record {

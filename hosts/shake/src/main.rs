@@ -55,6 +55,7 @@ fn main() {
             std::process::exit(1);
         }
         all_seen(&checker.seen);
+        println!("in service all {} bids that were to release something were granted", checker.releases);
         println!("shake: {last} inputs, seed {seed}, {} calls and {long} bids on one record agree", calls(&checker.seen));
     });
     if thread.unwrap().join().is_err() {
@@ -127,7 +128,12 @@ fn bids(checker: &mut Checker, random: &mut Random, words: &[u32], worked: &Work
             record = checker.again(random, words, worked, record);
         }
         let task = cases::task(random, set.tasks.len());
+        let releases = set.releases_next(&record.positions, task);
+        let before = record;
         record = checker.bid(random, words, worked, &worked.map, record, task);
+        if releases {
+            checker.granted_release(words, task, before, record);
+        }
     }
 }
 
