@@ -1,5 +1,5 @@
 -- Bid, again and route on any map and record: their definitions gone through, case by case.
-use Prim.Native.Nat.{ℕ, zero, suc, _+_, _-_, _<_, _≤_}
+use Prim.Native.Nat.{ℕ, _+_, _-_, _<_, _≤_}
 use native.Mathlib.Omega.{arith}
 use mathlib.Core.Path.{_≡_, refl, sym, ap, _∙_}
 use mathlib.Core.Logic.{_⊎_, inl, inr}
@@ -7,8 +7,8 @@ use mathlib.Core.Bool.{true, false, not, cond}
 use mathlib.Core.List.{List, [], _∷_, map, map-append, flatten}
 use lib.ListN.{length, length-map}
 use lib.Seq.{getD-take, length-take-le}
-use lib.Dec.{eqb, ltb, leb}
-use borrow.Author.Tests.{ltb-true, ltb-false, lt-ltb, le-ltb, lt-leb, le-leb, eqb-true, eq-eqb, ne-eqb}
+use lib.Dec.{eqb, leb}
+use borrow.Author.Tests.{lt-ltb, le-ltb, lt-leb, le-leb, eq-eqb, ne-eqb}
 use Rattle.model.specs.Set.{deviceOf, Set, lengthsOf, taskAt, actionAt, at, size}
 use Rattle.model.specs.Layout.{WellFormed}
 use Rattle.model.specs.State.{State, InGrid, next, unfinished, isEnd, sum, rank}
@@ -16,15 +16,14 @@ use Rattle.model.specs.Read.{reads, faulty, read}
 use Rattle.model.specs.Answer.{Answer, planned, routed, restarted, granted, finished, busy, held, refused}
 use Rattle.model.specs.Analysis.{analyseReading}
 use Rattle.model.specs.Broker.{Record, stateIn, misplaced, bidByte, bidAnswer, isGranted, answered, bidReading, bid, againSet, againReading, bids, serve, afterCalls, grantCount, roundCalls}
-use Rattle.model.specs.Route.{firstStep, walk, stepsFrom, walked, routeFrom, routeSet, routeReading, route}
-use Rattle.model.proofs.Tests.{by-test, true-not-false, and-true, or-right}
-use Rattle.model.proofs.States.{unfinished-task, next-grid}
-use Rattle.model.proofs.Sums.{sum-next, sum-le, sum-lt}
-use Rattle.model.proofs.Moves.{moves}
-use Rattle.model.proofs.RouteStep.{step-lands, step-found, step-smallest}
+use Rattle.model.specs.Route.{walk, stepsFrom, walked, routeFrom, routeSet, routeReading, route}
+use Rattle.model.proofs.Tests.{by-test, or-right}
+use Rattle.model.proofs.States.{unfinished-task}
+use Rattle.model.proofs.Sums.{sum-le}
 use Rattle.model.proofs.ReadExact.{read-sound}
-use Rattle.demands.specs.Calls.{noRoute, OfFaulty, OfState, OfAgain, byteOf, Ready, Misplaced, OfBid, Names, unchanged, Walk, stops, goes, Walks, OfRoute, OfLists, Calls}
+use Rattle.demands.specs.Calls.{noRoute, OfFaulty, OfState, OfAgain, byteOf, Ready, Misplaced, OfBid, Names, unchanged, Walks, OfRoute, OfLists, Calls}
 use Rattle.demands.proofs.StatesHold.{of-states}
+use Rattle.demands.proofs.WalkSteps.{walk-is, walk-grid}
 use Rattle.demands.proofs.Placed.{length-at, told-misplaced, in-place, placed-grid}
 
 faults : (words : List ℕ) (n p : ℕ) → read words ≡ faulty n p → OfFaulty words n p
@@ -121,37 +120,6 @@ module _ (words : List ℕ) (s : Set) (is-read : read words ≡ reads s) (r : Re
       is-granted = λ q l b. on-byte t q l ∙ rw b;
     }
 
-    -- a step onto byte 0
-    onto : (y : State) (t : ℕ) → at y t < at ls t → byteOf s m (next y t) ≡ 0 → moves ls m y t ≡ true
-    onto y t l b = rw (lt-ltb (at y t) (at ls t) l, b)
-
-    -- the walk as it is defined, with as many steps as actions are left
-    walk-is : (k : ℕ) (y : State) → InGrid ls y → sum y + k ≡ sum ls → Walk s m y (walk ls m k y) (walked y (walk ls m k y))
-    unfolding walk walked
-    walk-is zero y g h = stops {y = y} λ t l b. let n = sum-lt ls y g t l in omega arith
-    walk-is (suc k) y g h =
-        let t = firstStep ls m y in
-        by-test (ltb t (length ls))
-        (λ e.
-        let o = step-lands ls m y (length ls) 0 (omega (arith, ltb-true t (length ls) e)) in
-        let q = and-true (unfinished ls y t) (eqb (byteOf s m (next y t)) 0) o in
-        let u = ltb-true t (length ls) e in
-        rw e (goes {y = y} t
-        (record {
-          left = ltb-true (at y t) (at ls t) (q .0);
-          lands = eqb-true (byteOf s m (next y t)) 0 (q .1);
-          none-smaller = λ u l i b. true-not-false (moves ls m y u) (onto y u i b) (step-smallest ls m y (length ls) 0 u (omega arith) l);
-        })
-        (walk-is k (next y t) (next-grid ls y g t (q .0)) (omega (arith, sum-next y t (omega (arith, g .count)))))))
-        (λ e. rw e (stops {y = y} λ u l b.
-        let i = onto y u l b in
-        let f = step-found ls m y (length ls) 0 u (omega arith) (omega (arith, unfinished-task ls y u (lt-ltb (at y u) (at ls u) l))) i in
-        omega (arith, ltb-false t (length ls) e)))
-
-    walk-grid : {y z : State} {ts : List ℕ} → Walk s m y ts z → InGrid ls y → InGrid ls z
-    walk-grid (stops n) g = g
-    walk-grid {y} (goes t i w) g = walk-grid w (next-grid ls y g t (lt-ltb (at y t) (at ls t) (i .left)))
-
     module _ (slice : List ℕ) where
       abbrev steps : List ℕ
       steps = stepsFrom ls m x
@@ -164,8 +132,8 @@ module _ (words : List ℕ) (s : Set) (is-read : read words ≡ reads s) (r : Re
       unfolding routeFrom
       walks q =
           let g = grid (q .1) in
-          let w = walk-is (sum ls - sum x) x g (omega (arith, sum-le ls x g)) in
-          let last = of-states ls .end (walked x steps) (walk-grid w g) in
+          let w = walk-is s m (sum ls - sum x) x g (omega (arith, sum-le ls x g)) in
+          let last = of-states ls .end (walked x steps) (walk-grid s m w g) in
           record {
             steps = steps;
             last = walked x steps;

@@ -21,7 +21,7 @@ use Rattle.model.proofs.ReadExact.{read-sound}
 use Rattle.model.proofs.Outcome.{accepted-made}
 use Rattle.demands.specs.Demand2.{PlanExact, Demand2}
 use Rattle.demands.specs.MapDemand.{IsDead}
-use Rattle.demands.proofs.MapHolds.{dead-both}
+use Rattle.demands.proofs.MapDemandHolds.{dead-both}
 
 -- the plan of a set is exact
 plan-exact : (s : Set) → PlanExact s (planOf s)

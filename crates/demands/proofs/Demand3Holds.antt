@@ -17,7 +17,7 @@ use Rattle.model.proofs.ReadExact.{read-sound}
 use Rattle.model.proofs.Outcome.{Mapped, accepted-made, short-made}
 use Rattle.demands.specs.Demand3.{stateAfter, OfMap, OfPlan, Demand3}
 use Rattle.demands.proofs.StatesHold.{of-states}
-use Rattle.demands.proofs.MapHolds.{can-end, open-both, bytes-right}
+use Rattle.demands.proofs.MapDemandHolds.{can-end, open-both, bytes-right}
 use Rattle.demands.proofs.AnalysesHold.{of-analysis}
 use Rattle.demands.proofs.Demand2Holds.{plan-left}
 

@@ -13,12 +13,13 @@ pub mod BoxList
 pub mod DeviceList
 pub mod TableList
 pub mod ForbiddenRuleHolds
-pub mod MapHolds
+pub mod MapDemandHolds
 pub mod UnsafeRuleHolds
 pub mod AnalysesHold
 pub mod Placed
 pub mod Demand2Holds
 pub mod Demand3Holds
+pub mod WalkSteps
 pub mod CallsHold
 pub mod ServiceHolds
 pub mod RouteDemandHolds

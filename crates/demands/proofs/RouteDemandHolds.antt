@@ -21,7 +21,7 @@ use Rattle.model.proofs.Records.{Carries, map-length, over-carries}
 use Rattle.demands.specs.MapDemand.{Leads, IsOpen, IsUnsafe, Bytes}
 use Rattle.demands.specs.Calls.{Misplaced, noRoute, byteOf, Walk, stops, goes, Walks, OfRoute}
 use Rattle.demands.specs.RouteDemand.{actionsLeft, Arrives, RouteRight, RouteDemand}
-use Rattle.demands.proofs.MapHolds.{bytes-right, unsafe-byte, byte-unsafe}
+use Rattle.demands.proofs.MapDemandHolds.{bytes-right, unsafe-byte, byte-unsafe}
 use Rattle.demands.proofs.AnalysesHold.{map-left}
 use Rattle.demands.proofs.CallsHold.{grid, of-route}
 

@@ -26,7 +26,7 @@ use Rattle.demands.specs.Service.{OfService, Service}
 use Rattle.demands.proofs.StatesHold.{of-states}
 use Rattle.demands.proofs.LayoutHolds.{by-action}
 use Rattle.demands.proofs.Placed.{length-at, told-misplaced}
-use Rattle.demands.proofs.MapHolds.{open-both, bytes-right, unsafe-byte}
+use Rattle.demands.proofs.MapDemandHolds.{open-both, bytes-right, unsafe-byte}
 use Rattle.demands.proofs.AnalysesHold.{map-left}
 use Rattle.demands.proofs.CallsHold.{of-bid, of-again}
 

@@ -47,9 +47,13 @@ pub record ReadingRight : Type 0 where
   pub refusal-1 : read [] ≡ faulty 1 0
   -- 2: over 4,096 words, whatever they are
   pub refusal-2 : (read (replicate 4097 0) ≡ faulty 2 4096) × (read (replicate 4096 0) ≡ faulty 4 0)
-  -- 3: a word after END, before 4 and before 12
+  -- 3: a word after END; before 4, 5, 6, 7, 9 and 12
   pub refusal-3 : (read (0x20000000 ∷ 0x50000001 ∷ 0x50000002 ∷ []) ≡ faulty 3 2)
       × (read (0x20000000 ∷ 0x50000001 ∷ 0x00000000 ∷ []) ≡ faulty 3 2)
+      × (read (0x20000000 ∷ 0x50000001 ∷ 0x10000001 ∷ []) ≡ faulty 3 2)
+      × (read (0x20000000 ∷ 0x50000001 ∷ 0x20000001 ∷ []) ≡ faulty 3 2)
+      × (read (replicate 8 0x20000000 ++ (0x50000008 ∷ 0x20000000 ∷ [])) ≡ faulty 3 9)
+      × (read (0x10000001 ∷ 0x20000000 ∷ 0x50000002 ∷ 0x40000000 ∷ []) ≡ faulty 3 3)
       × (read (0x10000001 ∷ 0x20000000 ∷ times 127 turnWords (0x20000000 ∷ times 127 turnWords (0x20000000 ∷ times 1 turnWords (0x50000202 ∷ 0x20000000 ∷ [])))) ≡ faulty 3 515)
   -- 4: a kind that is not 1 to 5, before 5 and 6
   pub refusal-4 : (read (0x00000001 ∷ []) ≡ faulty 4 0) × (read (0x6FFFFFFF ∷ []) ≡ faulty 4 0) × (read (0x20000000 ∷ 0xF0000000 ∷ []) ≡ faulty 4 1)
@@ -61,7 +65,8 @@ pub record ReadingRight : Type 0 where
       × (read (0x50000001 ∷ []) ≡ faulty 5 0)
       × (read (0x20000000 ∷ 0x10000009 ∷ []) ≡ faulty 5 1)
       × (read (replicate 16 0x10000001 ++ (0x20000000 ∷ 0x10000001 ∷ [])) ≡ faulty 5 17)
-  -- 6: a capacity of 0 or 9; TASK with a field; an undeclared device, claimed or released, or any where none is declared; END with another field than its index; all 28 bits count
+  -- 6: a capacity of 0 or 9; TASK with a field; an undeclared device, claimed or released (so before 9), or any where none is declared; END with another field than
+  -- its index; all 28 bits count
   pub refusal-6 : (read (0x10000000 ∷ []) ≡ faulty 6 0)
       × (read (0x10000009 ∷ []) ≡ faulty 6 0)
       × (read (0x18000001 ∷ []) ≡ faulty 6 0)

@@ -103,8 +103,8 @@ module _ (s : Set) where
       (t ∷ on .0, on .1, (l, q .1, on .2), on .3))
       (λ e. ([], x, refl, stuck x u e))
 
-pub map-right-holds : MapRight
-map-right-holds = record {
+pub map-demand : MapRight
+map-demand = record {
   can-end = can-end;
   dead = dead-both;
   dead-unsafe = λ s x g d. (d .is-permitted, (λ r. dead-unsafe (lengthsOf s) (permitted s) x (is-dead s x g d) (can-end s x g .1 r)));
@@ -145,4 +145,4 @@ module _ (s : Set) (m : List ℕ) (b : Bytes s m) (x : State) (g : InGrid (lengt
 
   pub byte-unsafe : (own ≡ 2) ⊎ (own ≡ 3) → IsUnsafe s x
   byte-unsafe (inl e) = b .unsafe x g .0 e .0
-  byte-unsafe (inr e) = map-right-holds .dead-unsafe s x g (b .dead x g .0 e)
+  byte-unsafe (inr e) = map-demand .dead-unsafe s x g (b .dead x g .0 e)
