@@ -24,6 +24,7 @@ use Rattle.model.proofs.ForbiddenSides.{DeviceSided, forbidden-sided}
 use Rattle.model.proofs.Records.{map-length}
 use Rattle.model.proofs.ReadExact.{read-sound}
 use Rattle.demands.specs.Analyses.{planLength, OfAnalysis, Analyses}
+use Rattle.demands.proofs.LayoutWords.{plan-words}
 
 -- each unsafe box has a side for each task
 last-sided : (ls : List ℕ) (fs : List Box) (k : ℕ) → Each (λ b. length b ≡ length ls) (lastUnsafe ls fs k)
@@ -90,4 +91,4 @@ map-left words map plan s e h =
     (λ k. ap (λ (a : Analysed). a .map) (of .made map plan h (ltb-false (length plan) (planLength s) k)) ∙ rw (map-length s))
 
 pub analyses-hold : Analyses
-analyses-hold = record { analyses = of-analysis }
+analyses-hold = record { plan-words = plan-words; analyses = of-analysis }

@@ -2,6 +2,8 @@ pub mod ExamplesHold
 pub mod PhilosophersHold
 pub mod PlansHold
 pub mod StillHeldSteps
+pub mod PlacesHold
+pub mod LayoutWords
 pub mod LayoutHolds
 pub mod ReadingHolds
 pub mod StatesHold

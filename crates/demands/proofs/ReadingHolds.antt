@@ -6,11 +6,13 @@ use Rattle.model.specs.Read.{lastTask, addAction, heldAfter, note, outOfOrder, 
 use Rattle.model.proofs.Parity.{length-even, grid-odd}
 use Rattle.demands.specs.Terms.{times}
 use Rattle.demands.specs.Reading.{ReadingRight}
+use Rattle.demands.proofs.LayoutWords.{set-words}
 use Rattle.demands.proofs.LayoutHolds.{layout-exact}
 
 pub reading-right : ReadingRight
 unfolding any size lastTask addAction heldAfter note outOfOrder fieldAllowed tooMany fault close readFrom read times
 reading-right = record {
+  words = set-words;
   layout = layout-exact;
   even = length-even;
   odd = grid-odd;

@@ -1,13 +1,26 @@
 -- Document 01, the analysis ("Dead states, plan, route, print"; refusals 13 and 14): its answer and both slices afterwards, for words that read as a set.
-use Prim.Native.Nat.{ℕ, _+_, _*_, _<_, _≤_}
+use Prim.Native.Nat.{ℕ, suc, _+_, _*_, _<_, _≤_}
 use mathlib.Core.Path.{_≡_}
-use mathlib.Core.List.{List, _++_}
+use mathlib.Core.List.{List, [], _∷_, _++_, map, flatten}
 use lib.ListN.{length, drop, replicate}
 use Rattle.model.specs.Set.{Set, lengthsOf, size}
-use Rattle.model.specs.Plan.{mapOf, planOf, planWords}
+use Rattle.model.specs.Box.{Box}
+use Rattle.model.specs.Plan.{mapOf, Plan, planOf, planWords}
 use Rattle.model.specs.Answer.{planned, refused}
 use Rattle.model.specs.Analysis.{analyse}
 use Rattle.model.specs.Read.{reads, read}
+
+-- one word a task of kind 8, from task t on: bits 23 to 16 task, 15 to 8 lowest, 7 to 0 highest position
+unfoldable pub sidesFrom : ℕ → Box → List ℕ
+sidesFrom t [] = []
+sidesFrom t (i ∷ b) = (0x80000000 + t * 0x10000 + i .low * 0x100 + i .high) ∷ sidesFrom (suc t) b
+
+-- each forbidden box as kind 6, with the device as field, and each unsafe box as kind 7, with field 0, its sides behind it; then kind 9 for each dead state, with the rank as field
+abbrev pub listOf : Plan → List ℕ
+listOf p =
+    flatten (map (λ f. (0x60000000 + f .device) ∷ sidesFrom 0 (f .box)) (p .forbidden))
+    ++ flatten (map (λ b. 0x70000000 ∷ sidesFrom 0 b) (p .unsafe))
+    ++ map (λ r. 0x90000000 + r) (p .dead)
 
 -- how many words the plan of a set has
 abbrev pub planLength : Set → ℕ
@@ -32,4 +45,6 @@ pub record OfAnalysis (words : List ℕ) (s : Set) : Type 0 where
       ≡ record { answer = planned (planLength s); map = mapOf s ++ drop (size (lengthsOf s)) map; plan = planWords (planOf s) ++ drop (planLength s) plan }
 
 pub record Analyses : Type 0 where
+  -- the words of a plan, and END as in a set
+  pub plan-words : (p : Plan) → planWords p ≡ listOf p ++ ((0x50000000 + length (listOf p)) ∷ [])
   pub analyses : (words : List ℕ) (s : Set) → read words ≡ reads s → OfAnalysis words s

@@ -12,9 +12,10 @@ use Rattle.model.specs.State.{State, stateAt, InGrid}
 use Rattle.model.specs.Hold.{Overfull}
 use Rattle.model.specs.Box.{covered}
 use Rattle.model.specs.Forbidden.{forbidden, boxes}
-use Rattle.model.specs.Plan.{AscendingFrom, Plan, planFrom}
+use Rattle.model.specs.Plan.{unsafeOf, Plan, planFrom}
 use Rattle.model.specs.Answer.{planned}
 use Rattle.model.specs.Analysis.{analyse}
+use Rattle.demands.specs.Terms.{Ordered}
 use Rattle.demands.specs.MapDemand.{IsDead}
 
 -- first part: the sets of the layout and no others
@@ -32,8 +33,10 @@ pub record PlanExact (s : Set) (p : Plan) : Type 0 where
   pub rule : p .forbidden ≡ forbidden s
   -- a state of the grid lies in one exactly if some device has more holders than its capacity
   pub exact : (x : State) → InGrid (lengthsOf s) x → (covered (boxes (p .forbidden)) x ≡ true) ↔ Overfull s x
+  -- the unsafe boxes are those of the set, in the order made
+  pub made : p .unsafe ≡ unsafeOf s
   -- the dead states are listed by strictly rising rank, and these are all
-  pub rising : AscendingFrom 0 (p .dead)
+  pub rising : Ordered (λ q r. q < r) (p .dead)
   pub listed : (r : ℕ) → List·Memᴰ r (p .dead) ↔ ((r < size (lengthsOf s)) × IsDead s (stateAt (lengthsOf s) r))
 
 -- demand 2

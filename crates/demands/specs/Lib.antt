@@ -1,5 +1,6 @@
 -- The statements: words that they share, the desk examples, the sections of document 01 in its order, and the demands over them.
 pub mod Terms
+pub mod Places
 pub mod Examples
 pub mod Philosophers
 pub mod Plans

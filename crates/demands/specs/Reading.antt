@@ -1,11 +1,11 @@
 -- Document 01, "The set" and "Turned back, by place", 1 to 12: which sets are well formed, each refusal and each limit at its edge, and the order of the rows.
-use Prim.Native.Nat.{ℕ, _%_, _<_, _≤_}
+use Prim.Native.Nat.{ℕ, _+_, _%_, _<_, _≤_}
 use mathlib.Core.Path.{_≡_}
 use mathlib.Core.Logic.{_↔_, _⊎_}
-use mathlib.Core.List.{List, [], _∷_, _++_}
+use mathlib.Core.List.{List, [], _∷_, _++_, map, flatten}
 use lib.ListN.{length, replicate}
 use Rattle.model.specs.Set.{Action, claim, release, Set, lengthsOf, taskAt, actionAt, at, size}
-use Rattle.model.specs.Layout.{WellFormed}
+use Rattle.model.specs.Layout.{encode, WellFormed}
 use Rattle.model.specs.Read.{reads, faulty, read}
 use Rattle.demands.specs.Terms.{times, StillHeld}
 
@@ -27,6 +27,15 @@ pub record InLayout (s : Set) : Type 0 where
   -- the grid is at most 65,536
   pub grid : size (lengthsOf s) ≤ 65536
 
+-- CLAIM is kind 3 and RELEASE kind 4, with the device as field
+unfoldable pub wordOf : Action → ℕ
+wordOf (claim d) = 0x30000000 + d
+wordOf (release d) = 0x40000000 + d
+
+-- DEVICE is kind 1, with the capacity as field; then for each task TASK, kind 2 with field 0, and its actions
+abbrev pub wordsOf : Set → List ℕ
+wordsOf s = map (λ c. 0x10000000 + c) (s .capacities) ++ flatten (map (λ task. 0x20000000 ∷ map wordOf task) (s .tasks))
+
 -- a claim and a release of device 0, as actions and as words
 abbrev pub turn : List Action
 turn = claim 0 ∷ release 0 ∷ []
@@ -35,6 +44,8 @@ abbrev pub turnWords : List ℕ
 turnWords = 0x30000000 ∷ 0x40000000 ∷ []
 
 pub record ReadingRight : Type 0 where
+  -- the words of a set, and END, kind 5, with the number of words before it
+  pub words : (s : Set) → encode s ≡ wordsOf s ++ ((0x50000000 + length (wordsOf s)) ∷ [])
   -- a set is well formed exactly if each of those sentences holds of it; then each L is even and the grid is odd
   pub layout : (s : Set) → WellFormed s ↔ InLayout s
   pub even : (s : Set) → WellFormed s → (t : ℕ) → length (taskAt s t) % 2 ≡ 0
