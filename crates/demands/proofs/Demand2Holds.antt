@@ -61,5 +61,6 @@ plan-left words map plan n e =
 pub demand2 : Demand2
 demand2 = record {
   layout = record { accepts = read-complete; no-others = read-sound; one-set = encode-injective };
+  of-set = plan-exact;
   plan = λ words map plan n e. rw (plan-left words map plan n e) (plan-exact (setIn words));
 }

@@ -175,7 +175,7 @@ module _ (d : ℕ) (task : Task) (i : Interval) where
         counted = omega arith;
         claimed = rw m (s .claimed);
         lasts = omega arith;
-        inside = omega (arith, length-drop (suc n) task);
+        before-close = omega (arith, length-drop (suc n) task);
         released = rw h (sym (getD-drop (suc n) task (s .lasting) (claim 0)) ∙ u .released);
         unbroken = λ q a b e.
             let z : suc n + (q - suc n) ≡ q = omega arith in

@@ -18,16 +18,16 @@ hears (refused n p) = refl
 pub hosts-hold : Hosts
 unfolding tell tellReading
 hosts-hold = record {
-  a-refusal = λ n p. refl;
-  a-plan = λ n. refl;
-  a-route = λ n. refl;
-  a-grant = refl;
-  a-close = refl;
-  a-busy = λ d. refl;
-  a-hold = λ r. refl;
-  an-again = refl;
-  a-set = λ s. refl;
-  no-set = λ n p. refl;
+  of-refused = λ n p. refl;
+  of-planned = λ n. refl;
+  of-routed = λ n. refl;
+  of-granted = refl;
+  of-finished = refl;
+  of-busy = λ d. refl;
+  of-held = λ r. refl;
+  of-restarted = refl;
+  of-accepted = λ s. refl;
+  of-faulty = λ n p. refl;
   heard-told = hears;
   told-apart = λ a b e. sym (hears a) ∙ ap hear e ∙ hears b;
 }

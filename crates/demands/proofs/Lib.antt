@@ -6,6 +6,12 @@ pub mod PlacesHold
 pub mod LayoutWords
 pub mod LayoutHolds
 pub mod ReadingHolds
+pub mod WordsBefore
+pub mod OpenTask
+pub mod ReadSoFar
+pub mod WordFaults
+pub mod LowestFaults
+pub mod TurnedHolds
 pub mod StatesHold
 pub mod HoldList
 pub mod HoldsHold

@@ -21,7 +21,7 @@ use Rattle.model.proofs.Sums.{sum-next, sum-lt}
 use Rattle.model.proofs.Byte.{dead-unsafe}
 use Rattle.model.proofs.MapExact.{map-right}
 use Rattle.model.proofs.Records.{Carries}
-use Rattle.demands.specs.MapDemand.{Leads, ReachesEnd, IsDead, IsOpen, IsUnsafe, Bytes, MapRight}
+use Rattle.demands.specs.MapDemand.{Leads, ReachesEnd, IsDead, IsOpen, IsUnsafe, Bytes, MapDemand}
 use Rattle.demands.proofs.StatesHold.{of-states}
 
 module _ (s : Set) where
@@ -103,7 +103,7 @@ module _ (s : Set) where
       (t ∷ on .0, on .1, (l, q .1, on .2), on .3))
       (λ e. ([], x, refl, stuck x u e))
 
-pub map-demand : MapRight
+pub map-demand : MapDemand
 map-demand = record {
   can-end = can-end;
   dead = dead-both;

@@ -11,6 +11,5 @@ places-hold = record {
   action = λ s t p. refl;
   a-side = λ b t. refl;
   counts = λ s. refl;
-  in-order = λ s. refl;
   set-read = λ words s e. ap setOf e;
 }

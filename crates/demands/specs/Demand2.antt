@@ -4,15 +4,15 @@ use Prim.Native.Nat.{ℕ, _<_}
 use mathlib.Core.Path.{_≡_}
 use mathlib.Core.Logic.{_↔_}
 use mathlib.Core.Bool.{true}
-use mathlib.Core.List.{List, List·Memᴰ}
+use mathlib.Core.List.{List, map, List·Memᴰ}
 use Rattle.model.specs.Set.{Set, lengthsOf, size}
 use Rattle.model.specs.Layout.{encode, WellFormed}
 use Rattle.model.specs.Read.{reads, read, setIn}
 use Rattle.model.specs.State.{State, stateAt, InGrid}
 use Rattle.model.specs.Hold.{Overfull}
 use Rattle.model.specs.Box.{covered}
-use Rattle.model.specs.Forbidden.{forbidden, boxes}
-use Rattle.model.specs.Plan.{unsafeOf, Plan, planFrom}
+use Rattle.model.specs.Forbidden.{forbidden}
+use Rattle.model.specs.Plan.{unsafeOf, Plan, planOf, planFrom}
 use Rattle.model.specs.Answer.{planned}
 use Rattle.model.specs.Analysis.{analyse}
 use Rattle.demands.specs.Terms.{Ordered}
@@ -29,11 +29,11 @@ pub record LayoutExact : Type 0 where
 
 -- second and third part, of the plan p for the set s
 pub record PlanExact (s : Set) (p : Plan) : Type 0 where
-  -- the forbidden boxes are those of document 004, 5.1, in document 01's order, each with its device
+  -- the forbidden boxes are those of the set, each with its device: `ForbiddenRule` says which they are, and in which order
   pub rule : p .forbidden ≡ forbidden s
   -- a state of the grid lies in one exactly if some device has more holders than its capacity
-  pub exact : (x : State) → InGrid (lengthsOf s) x → (covered (boxes (p .forbidden)) x ≡ true) ↔ Overfull s x
-  -- the unsafe boxes are those of the set, in the order made
+  pub exact : (x : State) → InGrid (lengthsOf s) x → (covered (map (λ f. f .box) (p .forbidden)) x ≡ true) ↔ Overfull s x
+  -- the unsafe boxes are those of the set, in the order made: `UnsafeRule`
   pub made : p .unsafe ≡ unsafeOf s
   -- the dead states are listed by strictly rising rank, and these are all
   pub rising : Ordered (λ q r. q < r) (p .dead)
@@ -42,5 +42,8 @@ pub record PlanExact (s : Set) (p : Plan) : Type 0 where
 -- demand 2
 pub record Demand2 : Type 0 where
   pub layout : LayoutExact
+  -- of the plan of every set
+  pub of-set : (s : Set) → PlanExact s (planOf s)
   -- where an analysis is accepted, of the plan read back from the plan slice as it leaves it, whatever the slices held and however long they are
-  pub plan : (words map plan : List ℕ) (n : ℕ) → analyse words map plan .answer ≡ planned n → PlanExact (setIn words) (planFrom (analyse words map plan .plan))
+  pub plan : (words mapped plan : List ℕ) (n : ℕ) → analyse words mapped plan .answer ≡ planned n
+      → PlanExact (setIn words) (planFrom (analyse words mapped plan .plan))

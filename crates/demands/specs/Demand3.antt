@@ -4,14 +4,13 @@ use Prim.Native.Nat.{ℕ, _%_, _≤_}
 use mathlib.Core.Path.{_≡_}
 use mathlib.Core.Logic.{_↔_}
 use mathlib.Core.Bool.{true, false}
-use mathlib.Core.List.{List, List·Memᴰ}
+use mathlib.Core.List.{List, map, List·Memᴰ}
 use lib.ListN.{length}
 use Rattle.model.specs.Set.{Set, lengthsOf}
 use Rattle.model.specs.Read.{reads, read, setIn}
 use Rattle.model.specs.State.{State, sum, InGrid}
 use Rattle.model.specs.Hold.{permitted}
 use Rattle.model.specs.Box.{covered}
-use Rattle.model.specs.Forbidden.{boxes}
 use Rattle.model.specs.Plan.{Plan, planFrom}
 use Rattle.model.specs.Answer.{planned, refused}
 use Rattle.model.specs.Analysis.{analyse}
@@ -36,16 +35,16 @@ pub record OfMap (words map : List ℕ) : Type 0 where
       → sum (lengthsOf (setIn words)) ≤ length rs → stateAfter words map (roundCalls rs) ≡ lengthsOf (setIn words)
 
 -- what holds besides of the plan p that an accepted analysis leaves
-pub record OfPlan (words map : List ℕ) (p : Plan) : Type 0 where
+pub record OfPlan (words m : List ℕ) (p : Plan) : Type 0 where
   -- a permitted state lies in an unsafe box exactly if no sequence of allowed steps leads from it to the end
   pub unsafe-box : (x : State) → InGrid (lengthsOf (setIn words)) x → permitted (setIn words) x ≡ true
       → (covered (p .unsafe) x ≡ true) ↔ (ReachesEnd (setIn words) x → ⊥)
   -- after every list of bids and agains the state lies in no box
-  pub no-box : (cs : List Call) → (covered (boxes (p .forbidden)) (stateAfter words map cs) ≡ false) × (covered (p .unsafe) (stateAfter words map cs) ≡ false)
+  pub no-box : (cs : List Call) → (covered (map (λ f. f .box) (p .forbidden)) (stateAfter words m cs) ≡ false) × (covered (p .unsafe) (stateAfter words m cs) ≡ false)
 
 -- for all words and all slices lent to an analysis of them, with the slices as it leaves them, the plan read back up to its kind 5
 pub record Demand3 : Type 0 where
-  -- an analysis of a set is accepted exactly if its map and plan have room in the slices, so that nothing below is said of no set
+  -- an analysis of a set is accepted exactly if its map and plan have room in the slices, as `Analyses` says: so nothing below is said of no set
   pub answers : (words : List ℕ) (s : Set) → read words ≡ reads s → OfAnalysis words s
   pub accepted : (words map plan : List ℕ) (n : ℕ) → analyse words map plan .answer ≡ planned n
       → OfMap words (analyse words map plan .map) × OfPlan words (analyse words map plan .map) (planFrom (analyse words map plan .plan))

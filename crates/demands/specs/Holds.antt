@@ -17,7 +17,7 @@ pub record IsHold (d : ℕ) (task : Task) (i : Interval) : Type 0 where
   pub counted : 1 ≤ i .low
   pub claimed : getD task (i .low - 1) (claim 0) ≡ claim d
   pub lasts : i .low ≤ i .high
-  pub inside : i .high < length task
+  pub before-close : i .high < length task
   pub released : getD task (i .high) (claim 0) ≡ release d
   pub unbroken : (q : ℕ) → i .low ≤ q → q < i .high → getD task q (claim 0) ≡ release d → ⊥
 

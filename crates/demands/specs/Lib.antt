@@ -5,6 +5,7 @@ pub mod Examples
 pub mod Philosophers
 pub mod Plans
 pub mod Reading
+pub mod Turned
 pub mod States
 pub mod Holds
 pub mod ForbiddenRule

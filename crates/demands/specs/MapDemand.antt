@@ -42,7 +42,7 @@ module _ (s : Set) where
     pub no-other : (x : State) → InGrid (lengthsOf s) x → at map (rank (lengthsOf s) x) ≤ 3
 
 -- of the states of a set's grid
-pub record MapRight : Type 0 where
+pub record MapDemand : Type 0 where
   -- the definitions of Run say the same
   pub can-end : (s : Set) (x : State) → InGrid (lengthsOf s) x → CanEnd (lengthsOf s) (permitted s) x ↔ ReachesEnd s x
   pub dead : (s : Set) (x : State) → InGrid (lengthsOf s) x → Dead (lengthsOf s) (permitted s) x ↔ IsDead s x

@@ -6,7 +6,6 @@ use lib.ListN.{length, getD}
 use Rattle.model.specs.Set.{claim, Set, lengthsOf, taskAt, actionAt, at}
 use Rattle.model.specs.Read.{reads, read, setIn}
 use Rattle.model.specs.Box.{Box, side}
-use Rattle.model.specs.Forbidden.{forbidden, forbiddenBoxes}
 use Rattle.demands.specs.Terms.{_to_}
 
 pub record Places : Type 0 where
@@ -17,7 +16,5 @@ pub record Places : Type 0 where
   pub a-side : (b : Box) (t : ℕ) → side b t ≡ getD b t (0 to 0)
   -- the L of each task
   pub counts : (s : Set) → lengthsOf s ≡ map length (s .tasks)
-  -- the boxes of the forbidden list, in its order
-  pub in-order : (s : Set) → forbiddenBoxes s ≡ map (λ f. f .box) (forbidden s)
   -- the set of accepted words
   pub set-read : (words : List ℕ) (s : Set) → read words ≡ reads s → setIn words ≡ s

@@ -51,7 +51,7 @@ pub record Plans : Type 0 where
   pub n-plan : analysed n 25 13 .plan
       ≡ 0x60000000 ∷ 0x80000101 ∷ 0x80010101 ∷ 0x60000000 ∷ 0x80000101 ∷ 0x80010303 ∷ 0x60000000 ∷ 0x80000303 ∷ 0x80010101
       ∷ 0x60000000 ∷ 0x80000303 ∷ 0x80010303 ∷ 0x5000000C ∷ []
-  -- the unsafe boxes. Each of these would give others: the last blocker for the first, unsafe boxes before forbidden ones, states by rising rank, or with task 0 weighing least,
+  -- the unsafe boxes. By running, each of these gives others: the last blocker for the first, unsafe boxes before forbidden ones, states by rising rank, or with task 0 weighing least,
   -- a task's own blocker counted, the smallest lower bound for the largest, no box where a task is finished, a stop after the first box
   pub o-plan : analysed o 343 46 .plan
       ≡ 0x60000000 ∷ 0x80000104 ∷ 0x80010405 ∷ 0x80020104 ∷ 0x60000001 ∷ 0x80000205 ∷ 0x80010104 ∷ 0x80020006

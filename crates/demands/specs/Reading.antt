@@ -102,7 +102,7 @@ pub record ReadingRight : Type 0 where
       × (read (0x10000001 ∷ 0x20000000 ∷ times 127 turnWords (0x30000000 ∷ 0x30000000 ∷ [])) ≡ faulty 7 257)
       × (read (0x10000001 ∷ 0x10000001 ∷ 0x20000000 ∷ times 127 turnWords (0x30000000 ∷ 0x40000001 ∷ [])) ≡ faulty 7 258)
       × (read (0x10000001 ∷ replicate 8 0x20000000 ++ (0x30000000 ∷ 0x20000000 ∷ [])) ≡ faulty 7 10)
-  -- 16 devices and 8 tasks, 254 actions are accepted; the 255th action is still looked at, for 9 and for 8
+  -- 16 devices and 8 tasks, and 254 actions, are accepted; the 255th action is no 7 (then END is missing), and is still looked at for 9 and for 8
   pub within-7 : (read (replicate 16 0x10000001 ++ (replicate 8 0x20000000 ++ (0x50000018 ∷ []))) ≡ reads (record { capacities = replicate 16 1; tasks = replicate 8 [] }))
       × (read (0x10000001 ∷ 0x20000000 ∷ times 127 turnWords (0x50000100 ∷ [])) ≡ reads (record { capacities = 1 ∷ []; tasks = times 127 turn [] ∷ [] }))
       × (read (0x10000001 ∷ 0x20000000 ∷ times 127 turnWords (0x30000000 ∷ [])) ≡ faulty 11 257)

@@ -3,12 +3,12 @@ use Prim.Native.Nat.{ℕ, suc, _<_, _≤_}
 use mathlib.Core.Path.{_≡_}
 use mathlib.Core.Logic.{_↔_, _⊎_}
 use mathlib.Core.Bool.{true, false}
-use mathlib.Core.List.{List, [], _∷_, _++_}
+use mathlib.Core.List.{List, [], _∷_, _++_, map}
 use lib.ListN.{length, getD}
 use Rattle.model.specs.Set.{Set, lengthsOf, at, size}
 use Rattle.model.specs.State.{State, next, stateAt}
 use Rattle.model.specs.Box.{Box, side, inside, covered, firstBox}
-use Rattle.model.specs.Forbidden.{forbiddenBoxes}
+use Rattle.model.specs.Forbidden.{forbidden}
 use Rattle.model.specs.Plan.{unsafeOf}
 
 -- the box at place i of a list
@@ -56,5 +56,5 @@ pub record UnsafeRule : Type 0 where
   -- a state lies in one of the boxes exactly if one of them holds it, and then the first of these is its first box
   pub in-one : (bs : List Box) (x : State) → (covered bs x ≡ true) ↔ ((i : ℕ) × (i < length bs) × (inside (boxAt bs i) x ≡ true))
   pub first : (bs : List Box) (x : State) → covered bs x ≡ true → IsFirst bs x (firstBox bs x)
-  -- the unsafe boxes of a set are those made at all ranks
-  pub made : (s : Set) → Made (lengthsOf s) (forbiddenBoxes s) 0 (unsafeOf s)
+  -- the unsafe boxes of a set are those made at all ranks, over its forbidden boxes in their order
+  pub made : (s : Set) → Made (lengthsOf s) (map (λ f. f .box) (forbidden s)) 0 (unsafeOf s)

@@ -1,0 +1,76 @@
+-- Document 01, "Turned back, by place", 1 to 12, of all words: which word brings which number, said of the words alone.
+use Prim.Native.Nat.{ℕ, _+_, _-_, _/_, _%_, _<_, _≤_}
+use mathlib.Core.Path.{_≡_}
+use mathlib.Core.Logic.{_⊎_}
+use mathlib.Core.List.{List, []}
+use lib.ListN.{length, getD}
+use lib.Dec.{eqb}
+use Rattle.model.specs.Set.{Set, lengthsOf, size}
+use Rattle.model.specs.Layout.{encode}
+use Rattle.model.specs.Read.{reads, faulty, read}
+use Rattle.demands.specs.Terms.{howMany}
+
+module _ (ws : List ℕ) where
+  -- word i's top four bits, and its low 28
+  abbrev pub kind : ℕ → ℕ
+  kind i = getD ws i 0 / 0x10000000
+
+  abbrev pub field : ℕ → ℕ
+  field i = getD ws i 0 % 0x10000000
+
+  -- a word before i has kind k
+  abbrev pub Came : ℕ → ℕ → Type 0
+  Came i k = (j : ℕ) × (j < i) × (kind j ≡ k)
+
+  -- word i is a CLAIM or a RELEASE
+  abbrev pub IsAction : ℕ → Type 0
+  IsAction i = (kind i ≡ 3) ⊎ (kind i ≡ 4)
+
+  -- before word i the open task holds device d: a CLAIM of d, and since then no TASK and no RELEASE of d
+  abbrev pub Holds : ℕ → ℕ → Type 0
+  Holds i d =
+      (p : ℕ) × (p < i) × (kind p ≡ 3) × (field p ≡ d)
+      × ((q : ℕ) → p < q → q < i → (kind q ≡ 2) ⊎ ((kind q ≡ 4) × (field q ≡ d)) → ⊥)
+
+  -- before word i the open task has 255 actions: the last TASK is more than 255 words back
+  abbrev pub Full : ℕ → Type 0
+  Full i = (j : ℕ) × (j + 255 < i) × (kind j ≡ 2) × ((q : ℕ) → j < q → q < i → kind q ≡ 2 → ⊥)
+
+  -- word i brings a number
+  pub data Brings (i : ℕ) : ℕ → Type 0 where
+    after-end : Came i 5 → Brings i 3
+    no-kind : (kind i ≡ 0) ⊎ (5 < kind i) → Brings i 4
+    late-device : kind i ≡ 1 → Came i 2 → Brings i 5
+    early : IsAction i ⊎ (kind i ≡ 5) → (Came i 2 → ⊥) → Brings i 5
+    bad-capacity : kind i ≡ 1 → (field i ≡ 0) ⊎ (8 < field i) → Brings i 6
+    task-field : kind i ≡ 2 → (field i ≡ 0 → ⊥) → Brings i 6
+    undeclared : IsAction i → howMany i (λ j. eqb (kind j) 1) ≤ field i → Brings i 6
+    end-field : kind i ≡ 5 → (field i ≡ i → ⊥) → Brings i 6
+    device-17 : kind i ≡ 1 → 16 ≤ howMany i (λ j. eqb (kind j) 1) → Brings i 7
+    task-9 : kind i ≡ 2 → 8 ≤ howMany i (λ j. eqb (kind j) 2) → Brings i 7
+    action-256 : IsAction i → Full i → Brings i 7
+    claims-held : kind i ≡ 3 → Holds i (field i) → Brings i 8
+    releases-free : kind i ≡ 4 → (Holds i (field i) → ⊥) → Brings i 9
+    holds-on : (kind i ≡ 2) ⊎ (kind i ≡ 5) → (d : ℕ) → Holds i d → Brings i 10
+
+  -- no word before i brings any
+  abbrev pub Clean : ℕ → Type 0
+  Clean i = (j m : ℕ) → j < i → Brings j m → ⊥
+
+  -- i is the first faulty word, and n the lowest of its numbers
+  pub record FirstFault (i n : ℕ) : Type 0 where
+    pub listed : i < length ws
+    pub clean-before : Clean i
+    pub brings : Brings i n
+    pub lowest : (m : ℕ) → Brings i m → n ≤ m
+
+pub record Turned : Type 0 where
+  pub no-words : read [] ≡ faulty 1 0
+  pub too-many : (ws : List ℕ) → 4096 < length ws → read ws ≡ faulty 2 4096
+  -- within the limit, each list has a first faulty word or none at all; the first one counts, with the lowest of its numbers
+  pub cases : (ws : List ℕ) → length ws ≤ 4096 → Clean ws (length ws) ⊎ ((i n : ℕ) × FirstFault ws i n)
+  pub first-word : (ws : List ℕ) (i n : ℕ) → length ws ≤ 4096 → FirstFault ws i n → read ws ≡ faulty n i
+  -- after words without a fault: 11 where no END came; else they are the words of a set, which is accepted unless its grid is too large
+  pub no-end : (ws : List ℕ) → 0 < length ws → length ws ≤ 4096 → Clean ws (length ws) → (Came ws (length ws) 5 → ⊥) → read ws ≡ faulty 11 (length ws)
+  pub with-end : (ws : List ℕ) → length ws ≤ 4096 → Clean ws (length ws) → Came ws (length ws) 5
+      → (s : Set) × (ws ≡ encode s) × (size (lengthsOf s) ≤ 65536 → read ws ≡ reads s) × (65536 < size (lengthsOf s) → read ws ≡ faulty 12 (length ws - 1))
