@@ -36,21 +36,28 @@ module _ (ws : List ℕ) where
   abbrev pub Full : ℕ → Type 0
   Full i = (j : ℕ) × (j + 255 < i) × (kind j ≡ 2) × ((q : ℕ) → j < q → q < i → kind q ≡ 2 → ⊥)
 
-  -- word i brings a number
+  -- word i brings a number: the table's rows for each word, by kinds 1 DEVICE, 2 TASK, 3 CLAIM, 4 RELEASE, 5 END
   pub data Brings (i : ℕ) : ℕ → Type 0 where
+    -- END came before
     after-end : Came i 5 → Brings i 3
+    -- kind not 1 to 5
     no-kind : (kind i ≡ 0) ⊎ (5 < kind i) → Brings i 4
+    -- DEVICE after a TASK; CLAIM, RELEASE or END before any
     late-device : kind i ≡ 1 → Came i 2 → Brings i 5
     early : IsAction i ⊎ (kind i ≡ 5) → (Came i 2 → ⊥) → Brings i 5
+    -- field not allowed: a capacity is 1 to 8, TASK's field 0, an action's a declared device, END's the number of words before it
     bad-capacity : kind i ≡ 1 → (field i ≡ 0) ⊎ (8 < field i) → Brings i 6
     task-field : kind i ≡ 2 → (field i ≡ 0 → ⊥) → Brings i 6
     undeclared : IsAction i → howMany i (λ j. eqb (kind j) 1) ≤ field i → Brings i 6
     end-field : kind i ≡ 5 → (field i ≡ i → ⊥) → Brings i 6
+    -- 17th device, 9th task, 256th action
     device-17 : kind i ≡ 1 → 16 ≤ howMany i (λ j. eqb (kind j) 1) → Brings i 7
     task-9 : kind i ≡ 2 → 8 ≤ howMany i (λ j. eqb (kind j) 2) → Brings i 7
     action-256 : IsAction i → Full i → Brings i 7
+    -- claim of a held device; release of one not held
     claims-held : kind i ≡ 3 → Holds i (field i) → Brings i 8
     releases-free : kind i ≡ 4 → (Holds i (field i) → ⊥) → Brings i 9
+    -- TASK or END while something is held
     holds-on : (kind i ≡ 2) ⊎ (kind i ≡ 5) → (d : ℕ) → Holds i d → Brings i 10
 
   -- no word before i brings any
@@ -65,6 +72,7 @@ module _ (ws : List ℕ) where
     pub lowest : (m : ℕ) → Brings i m → n ≤ m
 
 pub record Turned : Type 0 where
+  -- before words: none, or over 4,096
   pub no-words : read [] ≡ faulty 1 0
   pub too-many : (ws : List ℕ) → 4096 < length ws → read ws ≡ faulty 2 4096
   -- within the limit, each list has a first faulty word or none at all; the first one counts, with the lowest of its numbers
