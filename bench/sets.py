@@ -1,6 +1,7 @@
 #!/usr/bin/env python3
 """sets.py DIR: writes the sets that the benchmark runs on, four bytes a word, lowest first: DIR/NAME.set for the table, DIR/growth/FAMILY-SIZE.set for growth."""
 import os
+import random
 import struct
 import sys
 
@@ -74,6 +75,38 @@ def apart(n):
     return [1, 1], [pairs(n, [claim(0), release(0)]), pairs(n, [claim(1), release(1)])]
 
 
+def nested(orders, n):
+    """Each task claims the same devices in an order of its own, claims and releases one device more n times while it holds them all, and releases them: every two
+    tasks exclude each other over most of the grid, once for each device."""
+    extra = len(orders[0])
+    own = pairs(n, [claim(extra), release(extra)])
+    return [1] * (extra + 1), [[claim(d) for d in order] + own + [release(d) for d in reversed(order)] for order in orders]
+
+
+def turned(n, by):
+    """The devices 0 to n - 1, from `by` on and then the others."""
+    return [(d + by) % n for d in range(n)]
+
+
+def random_task(rng, devices, length):
+    """Claims and releases at random, a device held or not held as it must be."""
+    held, actions = [], []
+    while len(actions) < length:
+        free = [d for d in range(devices) if d not in held]
+        if held and (len(held) == length - len(actions) or not free or rng.random() < 0.5):
+            actions.append(release(held.pop(rng.randrange(len(held)))))
+        else:
+            held.append(rng.choice(free))
+            actions.append(claim(held[-1]))
+    return actions
+
+
+def tangled(seed, tasks, length, devices):
+    """Tasks of claims and releases at random, the same for the same seed: their forbidden boxes overlap, and some states are unsafe."""
+    rng = random.Random(seed)
+    return [1] * devices, [random_task(rng, devices, length) for _ in range(tasks)]
+
+
 os.makedirs(os.path.join(sys.argv[1], "growth"), exist_ok=True)
 
 # --- The table ---
@@ -99,6 +132,12 @@ save("longest_accepted", [1] * 16, [[]] * 3 + [[a for i in range(127) for a in (
 # As many words as a list can have before its grid is looked at: 16 devices and eight tasks of 254 actions, 2,057 words, refused with 12. It is read and no more,
 # which is nearly all that a bid costs.
 save("longest", [1] * 16, [pairs(127, [claim(d), release(d)]) for d in range(8)])
+
+# Three to five tasks whose forbidden boxes overlap: by a seed, and the worst case, where each of 45 boxes holds a quarter of the grid.
+for tasks, length, devices, seeds in [(3, 38, 2, [1, 4]), (3, 38, 4, [2, 6]), (3, 38, 8, [2, 6]), (3, 38, 16, [1]), (4, 14, 4, [1]), (5, 8, 2, [3])]:
+    for seed in seeds:
+        save("tangled_%d_%d_%d" % (tasks, devices, seed), *tangled(seed, tasks, length, devices))
+save("nested", *nested([turned(15, 0), turned(15, 5), turned(15, 10)], 4))
 
 # --- Growth: each family from a few states to nearly as many as there can be ---
 
