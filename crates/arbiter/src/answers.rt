@@ -1,11 +1,19 @@
 // What hosts are told: one struct of numbers for the answers of all calls.
 ghost use mathlib.Core.Path.{_≡_};
-ghost use Rattle.model.specs.Answer.{refused};
+ghost use mathlib.Core.List.{List};
+ghost use Prim.Native.Nat.{ℕ};
+ghost use Rattle.model.specs.Read.{read};
+ghost use Rattle.model.specs.Told.{tellReading, tellAnalysis, tellRoute, tellBid, tellAgain};
+ghost use Rattle.reader.specs.Answer.{answer};
 ghost use Rattle.analysis.specs.Says as analysis-says;
-ghost use Rattle.broker.specs.Says as broker-says;
+ghost use Rattle.broker.specs.Says.{bidOf, againOf};
 ghost use Rattle.route.specs.Says as route-says;
-ghost use Rattle.arbiter.specs.Told.{told};
+ghost use Rattle.arbiter.specs.Told.{structOf};
 use analysis::Outcome;
+use broker::AgainAnswer;
+use broker::BidAnswer;
+use reader::Reading;
+use reader::Verdict;
 use route::RouteAnswer;
 
 // The kinds of an answer. A zeroed answer is a refusal, so a host that asked nothing is granted nothing. The value is a refusal's place, the grid of a set that is
@@ -46,7 +54,7 @@ fn plain(kind: u32) -> Answer
     }
 }
 
-pub(crate) fn valued(kind: u32, value: usize) -> Answer
+fn valued(kind: u32, value: usize) -> Answer
     ensures { λ r. ⌜ r ≡ record { kind = kind; refusal = 0; value = value } ⌝ }
 {
     Answer {
@@ -56,8 +64,8 @@ pub(crate) fn valued(kind: u32, value: usize) -> Answer
     }
 }
 
-pub(crate) fn refuse(number: u8, place: usize) -> Answer
-    ensures { λ r. ⌜ r ≡ told (refused number place) ⌝ }
+fn refuse(number: u8, place: usize) -> Answer
+    ensures { λ r. ⌜ r ≡ record { kind = 0; refusal = number; value = place } ⌝ }
 {
     Answer {
         kind: REFUSED,
@@ -66,8 +74,19 @@ pub(crate) fn refuse(number: u8, place: usize) -> Answer
     }
 }
 
+pub(crate) fn of_reading(reading: Reading) -> Answer
+    ensures { λ r. ⌜ ((words : List ℕ) → reading ≡ answer (read words) → r ≡ structOf (tellReading (read words))) ⌝ }
+{
+    let verdict = reading.verdict;
+    let shape = reading.shape;
+    match verdict {
+        Verdict::Accepted => valued(ACCEPTED, shape.grid),
+        Verdict::Refused { number, place } => refuse(number, place),
+    }
+}
+
 pub(crate) fn of_outcome(outcome: Outcome) -> Answer
-    ensures { λ r. ⌜ r ≡ told (analysis-says.answerOf outcome) ⌝ }
+    ensures { λ r. ⌜ r ≡ structOf (tellAnalysis (analysis-says.answerOf outcome)) ⌝ }
 {
     match outcome {
         Outcome::Planned { words } => valued(PLANNED, words),
@@ -75,24 +94,32 @@ pub(crate) fn of_outcome(outcome: Outcome) -> Answer
     }
 }
 
-pub(crate) fn of_service(answer: broker::Answer) -> Answer
-    ensures { λ r. ⌜ r ≡ told (broker-says.answerOf answer) ⌝ }
-{
-    match answer {
-        broker::Answer::Granted => plain(GRANTED),
-        broker::Answer::Finished => plain(FINISHED),
-        broker::Answer::Busy { device } => valued(BUSY, device as usize),
-        broker::Answer::Held { rank } => valued(HELD, rank),
-        broker::Answer::Restarted => plain(RESTARTED),
-        broker::Answer::Refused { number, place } => refuse(number, place),
-    }
-}
-
 pub(crate) fn of_route(answer: RouteAnswer) -> Answer
-    ensures { λ r. ⌜ r ≡ told (route-says.answerOf answer) ⌝ }
+    ensures { λ r. ⌜ r ≡ structOf (tellRoute (route-says.answerOf answer)) ⌝ }
 {
     match answer {
         RouteAnswer::Steps { count } => valued(ROUTED, count),
         RouteAnswer::Refused { number, place } => refuse(number, place),
+    }
+}
+
+pub(crate) fn of_bid(answer: BidAnswer) -> Answer
+    ensures { λ r. ⌜ r ≡ structOf (tellBid (bidOf answer)) ⌝ }
+{
+    match answer {
+        BidAnswer::Granted => plain(GRANTED),
+        BidAnswer::Finished => plain(FINISHED),
+        BidAnswer::Busy { device } => valued(BUSY, device as usize),
+        BidAnswer::Held { rank } => valued(HELD, rank),
+        BidAnswer::Refused { number, place } => refuse(number, place),
+    }
+}
+
+pub(crate) fn of_again(answer: AgainAnswer) -> Answer
+    ensures { λ r. ⌜ r ≡ structOf (tellAgain (againOf answer)) ⌝ }
+{
+    match answer {
+        AgainAnswer::Restarted => plain(RESTARTED),
+        AgainAnswer::Refused { number, place } => refuse(number, place),
     }
 }

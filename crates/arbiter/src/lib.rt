@@ -5,25 +5,21 @@ mod answers;
 ghost use mathlib.Core.Path.{_≡_};
 ghost use Rattle.model.specs.Read.{read};
 ghost use Rattle.model.specs.Analysis.{analyse};
-ghost use Rattle.model.specs.Broker.{fresh, bid, again};
+ghost use Rattle.model.specs.Record.{fresh};
+ghost use Rattle.model.specs.Broker.{bid, again};
 ghost use Rattle.model.specs.Route.{route};
-ghost use Rattle.broker.specs.Says.{recordOf};
-ghost use Rattle.arbiter.specs.Told.{toldReading, ToldAnalysis, ToldService, ToldRoute};
+ghost use Rattle.model.specs.Told.{tellReading, tellBid, tellAgain};
+ghost use Rattle.records.specs.Says.{recordOf};
+ghost use Rattle.arbiter.specs.Told.{structOf, ToldAnalysis, ToldServed, ToldRoute};
 use answers::Answer;
-use broker::Record;
-use reader::Verdict;
+use records::Record;
 
 // Reads a set: accepted with its grid, so that a host knows how long its map will be, or a refusal of the set.
 #[no_mangle]
 pub extern "C" fn arbiter_read(set: &[u32]) -> Answer
-    ensures { λ r. ⌜ r ≡ toldReading (read (now (set .entry))) ⌝ }
+    ensures { λ r. ⌜ r ≡ structOf (tellReading (read (now (set .entry)))) ⌝ }
 {
-    let reading = reader::read(set);
-    let verdict = reading.verdict;
-    match verdict {
-        Verdict::Accepted { grid } => answers::valued(answers::ACCEPTED, grid as usize),
-        Verdict::Refused { number, place } => answers::refuse(number, place),
-    }
+    answers::of_reading(reader::read(set))
 }
 
 // The analysis of a set into a map and a plan.
@@ -45,17 +41,17 @@ pub extern "C" fn arbiter_fresh() -> Record
 // A bid of a task on the host's record.
 #[no_mangle]
 pub extern "C" fn arbiter_bid(rec: &mut Record, set: &[u32], map: &[u8], task: usize) -> Answer
-    ensures { λ r. ⌜ ToldService r (recordOf (now (rec .exit))) (bid (now (set .entry)) (now (map .entry)) (recordOf (now (rec .entry))) task) ⌝ }
+    ensures { λ r. ⌜ ToldServed tellBid r (recordOf (now (rec .exit))) (bid (now (set .entry)) (now (map .entry)) (recordOf (now (rec .entry))) task) ⌝ }
 {
-    answers::of_service(broker::bid_in_place(rec, set, map, task))
+    answers::of_bid(broker::bid_in_place(rec, set, map, task))
 }
 
 // Again on the host's record.
 #[no_mangle]
 pub extern "C" fn arbiter_again(rec: &mut Record, set: &[u32]) -> Answer
-    ensures { λ r. ⌜ ToldService r (recordOf (now (rec .exit))) (again (now (set .entry)) (recordOf (now (rec .entry)))) ⌝ }
+    ensures { λ r. ⌜ ToldServed tellAgain r (recordOf (now (rec .exit))) (again (now (set .entry)) (recordOf (now (rec .entry)))) ⌝ }
 {
-    answers::of_service(broker::again_in_place(rec, set))
+    answers::of_again(broker::again_in_place(rec, set))
 }
 
 // The route from the state in a record.

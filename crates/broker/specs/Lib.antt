@@ -1,3 +1,2 @@
--- What the broker promises: auditors read Says. Shaped is for the contracts of its own functions.
+-- What the broker promises: auditors read Says.
 pub mod Says
-pub mod Shaped

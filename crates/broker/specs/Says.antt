@@ -1,25 +1,31 @@
--- What the code's answers and records say in document 01's terms.
-use Rattle.model.specs.Answer.{granted, finished, busy, held, restarted, refused}
-use Rattle.model.specs.Answer as model
-use Rattle.model.specs.Broker as model-broker
-use Rattle.broker.specs.declared.Answer.{Answer}
-use Rattle.broker.specs.declared.Answer.the-variants.{Granted, Finished, Busy, Held, Restarted, Refused}
-use Rattle.broker.specs.declared.Record.{Record}
-use Rattle.broker.specs.declared.Served.{Served}
+-- What the code's answers say in document 01's terms.
+use Rattle.model.specs.Answer.{Answer, given, refused}
+use Rattle.model.specs.Broker.{Bid, granted, finished, busy, held, Again, restarted, Served}
+use Rattle.records.specs.Says.{recordOf}
+use Rattle.broker.specs.declared.BidAnswer.{BidAnswer}
+use Rattle.broker.specs.declared.BidAnswer.the-variants as bid
+use Rattle.broker.specs.declared.AgainAnswer.{AgainAnswer}
+use Rattle.broker.specs.declared.AgainAnswer.the-variants as again
+use Rattle.broker.specs.declared.ServedBid.{ServedBid}
+use Rattle.broker.specs.declared.ServedAgain.{ServedAgain}
 
--- each case, with Busy's device, Held's rank, and a refusal's number and place
-unfoldable pub answerOf : Answer → model.Answer
-answerOf Granted = granted
-answerOf Finished = finished
-answerOf (Busy device) = busy device
-answerOf (Held rank) = held rank
-answerOf Restarted = restarted
-answerOf (Refused number place) = refused number place
+-- a bid's answer, with Busy's device, Held's rank, and a refusal's number and place
+unfoldable pub bidOf : BidAnswer → Answer Bid
+bidOf bid.Granted = given granted
+bidOf bid.Finished = given finished
+bidOf (bid.Busy device) = given (busy device)
+bidOf (bid.Held rank) = given (held rank)
+bidOf (bid.Refused number place) = refused number place
 
--- the eight positions and the grant number
-abbrev pub recordOf : Record → model-broker.Record
-recordOf r = record { positions = r .positions; grants = r .grants }
+-- an again's answer
+unfoldable pub againOf : AgainAnswer → Answer Again
+againOf again.Restarted = given restarted
+againOf (again.Refused number place) = refused number place
 
--- the answer beside the record afterwards
-abbrev pub servedOf : Served → model-broker.Served
-servedOf s = record { answer = answerOf (s .answer); after = recordOf (s .after) }
+-- a bid's answer beside the record afterwards
+abbrev pub servedBidOf : ServedBid → Served Bid
+servedBidOf s = record { answer = bidOf (s .answer); after = recordOf (s .after) }
+
+-- an again's answer beside the record afterwards
+abbrev pub servedAgainOf : ServedAgain → Served Again
+servedAgainOf s = record { answer = againOf (s .answer); after = recordOf (s .after) }

@@ -1,71 +1,164 @@
-// The calls of the arbiter, each with its answer in one enum for all.
-use analysis::Outcome;
-use broker::Answer;
-use broker::Record;
+// The calls of a case, in order, on the record and the map as they stand.
+ghost use Prim.Native.Nat.{_+_, _<_};
+ghost use lib.ListN.{length};
+use crate::input::CALL_WORDS;
+use crate::rounds::show_rounds;
+use crate::text;
+use listing::least;
+use records::Record;
 use route::RouteAnswer;
 
-pub enum Said {
-    Planned(usize),
-    Routed(usize),
-    Restarted,
-    Granted,
-    Finished,
-    Busy(usize),
-    Held(usize),
-    Refused { number: u8, place: usize },
+// The kinds of calls; any other is a bid.
+const AGAIN: u32 = 1;
+
+const ROUTE: u32 = 2;
+
+const RECORD: u32 = 3;
+
+const POKE: u32 = 4;
+
+const LEND: u32 = 5;
+
+const ROUNDS: u32 = 7;
+
+// The longest route slice: one that a line shows whole.
+const MAX_ROUTE: usize = text::ROW;
+
+// A call: its kind and three values.
+struct Call {
+    kind: u32,
+    a: u32,
+    b: u32,
+    c: u32,
 }
 
-// An answer beside the record that it leaves.
-pub struct Served {
-    pub said: Said,
-    pub rec: Record,
+// What the calls of a case go on with: the record, and how much of the map is lent.
+struct Play {
+    rec: Record,
+    lent: usize,
 }
 
-pub fn analyse(words: &[u32], map: &mut [u8], plan: &mut [u32]) -> Said {
-    match analysis::analyse(words, map, plan) {
-        Outcome::Planned { words: count } => Said::Planned(count),
-        Outcome::Refused { number, place } => Said::Refused { number, place },
+pub fn play_calls(words: &[u32], list: &[u32], map: &mut [u8]) {
+    let mut play = Play {
+        rec: Record::fresh(),
+        lent: map.len(),
+    };
+    let mut k = 0;
+    while k < list.len() / CALL_WORDS {
+        play = play_call(words, map, play, call_at(list, k * CALL_WORDS));
+        k += 1;
     }
 }
 
-fn said_of(answer: Answer) -> Said {
-    match answer {
-        Answer::Granted => Said::Granted,
-        Answer::Finished => Said::Finished,
-        Answer::Busy { device } => Said::Busy(device as usize),
-        Answer::Held { rank } => Said::Held(rank),
-        Answer::Restarted => Said::Restarted,
-        Answer::Refused { number, place } => Said::Refused { number, place },
+fn call_at(list: &[u32], at: usize) -> Call
+    requires { ⌜ at + 3 < length (now list) ⌝ }
+{
+    Call {
+        kind: list[at],
+        a: list[at + 1],
+        b: list[at + 2],
+        c: list[at + 3],
     }
 }
 
-fn served_of(by: broker::Served) -> Served {
-    let answer = by.answer;
-    let after = by.after;
-    let told = said_of(answer);
-    Served {
-        said: told,
-        rec: after,
+fn play_call(words: &[u32], map: &mut [u8], play: Play, call: Call) -> Play {
+    if call.kind == POKE {
+        poke(map, call.a as usize, call.b);
+        return play;
+    }
+    answer_call(words, map, play, call)
+}
+
+// Puts a word's lowest byte into the map.
+fn poke(map: &mut [u8], rank: usize, word: u32) {
+    let bytes = listing::word_bytes(word);
+    if rank < map.len() {
+        map[rank] = bytes[0];
     }
 }
 
-pub fn bid(words: &[u32], map: &[u8], rec: Record, task: usize) -> Served {
-    served_of(broker::bid(words, map, rec, task))
+fn answer_call(words: &[u32], map: &[u8], play: Play, call: Call) -> Play {
+    let lent = least(play.lent, map.len());
+    let own = play.rec;
+    let kind = call.kind;
+    match kind {
+        RECORD => Play {
+            rec: record_of(call.a, call.b, call.c),
+            lent: lent,
+        },
+        LEND => Play {
+            rec: own,
+            lent: call.a as usize,
+        },
+        ROUTE => {
+            show_route(words, &map[..lent], own, call.a as usize);
+            play
+        }
+        _ => Play {
+            rec: show_served(words, &map[..lent], own, call),
+            lent: lent,
+        },
+    }
 }
 
-// A bid over the record. It is made by value, for the borrow checker doesn't cover a local record that is lent: the contracts of `broker::bid` and
-// `broker::bid_in_place` both say the model's bid, so their answers and the records that they leave are equal.
-pub fn bid_in_place(words: &[u32], map: &[u8], rec: Record, task: usize) -> Served {
-    served_of(broker::bid(words, map, rec, task))
+// The record of two words of positions, a byte each, and a grant number.
+fn record_of(low: u32, high: u32, grants: u32) -> Record {
+    let first = listing::word_bytes(low);
+    let last = listing::word_bytes(high);
+    Record {
+        positions: [
+            first[0],
+            first[1],
+            first[2],
+            first[3],
+            last[0],
+            last[1],
+            last[2],
+            last[3],
+        ],
+        grants: grants,
+    }
 }
 
-pub fn again(words: &[u32], rec: Record) -> Served {
-    served_of(broker::again(words, rec))
+fn show_route(words: &[u32], map: &[u8], rec: Record, length: usize) {
+    let mut steps = [text::FILL; MAX_ROUTE];
+    let n = least(length, MAX_ROUTE);
+    show_steps(words, map, rec, &mut steps[..n]);
 }
 
-pub fn route(words: &[u32], map: &[u8], rec: Record, steps: &mut [u8]) -> Said {
+fn show_steps(words: &[u32], map: &[u8], rec: Record, steps: &mut [u8]) {
     match route::route(words, map, rec, steps) {
-        RouteAnswer::Steps { count } => Said::Routed(count),
-        RouteAnswer::Refused { number, place } => Said::Refused { number, place },
+        RouteAnswer::Steps { count } => console::named(b"routed ", count),
+        RouteAnswer::Refused { number, place } => console::refusal(number, place),
     }
+    text::steps(steps);
+}
+
+fn show_served(words: &[u32], map: &[u8], rec: Record, call: Call) -> Record {
+    let kind = call.kind;
+    match kind {
+        ROUNDS => show_rounds(words, map, rec, call.a, call.b, call.c),
+        AGAIN => show_again(words, rec),
+        _ => show_bid(words, map, rec, call.a as usize),
+    }
+}
+
+// A bid over the record is made by value too, for the borrow checker doesn't cover a local record that is lent: the contracts of `broker::bid` and
+// `broker::bid_in_place` both say the model's bid, so their answers and the records that they leave are equal.
+fn show_bid(words: &[u32], map: &[u8], rec: Record, task: usize) -> Record {
+    let served = broker::bid(words, map, rec, task);
+    let answer = served.answer;
+    let after = served.after;
+    console::bid(answer);
+    text::record(after);
+    after
+}
+
+fn show_again(words: &[u32], rec: Record) -> Record {
+    let served = broker::again(words, rec);
+    let answer = served.answer;
+    let after = served.after;
+    console::again(answer);
+    text::record(after);
+    after
 }

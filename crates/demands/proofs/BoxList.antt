@@ -12,7 +12,7 @@ use Rattle.model.specs.Set.{Task, balanced}
 use Rattle.model.specs.Hold.{Interval, holds}
 use Rattle.model.specs.Box.{Box, side}
 use Rattle.model.specs.Forbidden.{TaskSet, prefixed, sidesOf, boxesOf}
-use Rattle.model.proofs.Tests.{by-test, by-cases}
+use Rattle.model.proofs.Bools.{by-bool, by-cases}
 use Rattle.model.proofs.Each.{Each}
 use Rattle.demands.specs.Terms.{_to_, before, Ordered}
 use Rattle.demands.specs.Holds.{IsHold}
@@ -30,7 +30,7 @@ unfolding tasksFrom members
 tasks-chosen t [] = refl
 tasks-chosen t (i ∷ b) =
     let rest = tasks-chosen (suc t) b in
-    by-test (ltb 0 (i .low)) (λ e. rw e (ap (λ l. t ∷ l) rest)) (λ e. rw e rest)
+    by-bool (ltb 0 (i .low)) (λ e. rw e (ap (λ l. t ∷ l) rest)) (λ e. rw e rest)
 
 -- each interval put before each box: one of the intervals, then one of the boxes
 prefixed-told : (is : List Interval) (bs : List Box) (b : Box) → List·Memᴰ b (prefixed is bs)

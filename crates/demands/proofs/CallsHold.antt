@@ -5,19 +5,21 @@ use mathlib.Core.Path.{_≡_, refl, sym, ap, _∙_}
 use mathlib.Core.Logic.{_⊎_, inl, inr}
 use mathlib.Core.Bool.{true, false, not, cond}
 use mathlib.Core.List.{List, [], _∷_, map, map-append, flatten}
-use lib.ListN.{length, length-map}
+use lib.ListN.{length, replicate, length-map}
 use lib.Seq.{getD-take, length-take-le}
-use lib.Dec.{eqb, leb}
-use borrow.Author.Tests.{lt-ltb, le-ltb, lt-leb, le-leb, eq-eqb, ne-eqb}
+use lib.Dec.{leb}
+use borrow.Author.Tests.{lt-ltb, le-ltb, lt-leb, le-leb, ne-eqb}
+use Rattle.model.specs.Answer.{Answer, given, refused, _then_, ifGiven}
 use Rattle.model.specs.Set.{deviceOf, Set, lengthsOf, taskAt, actionAt, at, size}
 use Rattle.model.specs.Layout.{WellFormed}
 use Rattle.model.specs.State.{State, InGrid, next, unfinished, isEnd, sum, rank}
-use Rattle.model.specs.Read.{reads, faulty, read}
-use Rattle.model.specs.Answer.{Answer, planned, routed, restarted, granted, finished, busy, held, refused}
-use Rattle.model.specs.Analysis.{analyseReading}
-use Rattle.model.specs.Broker.{Record, stateIn, misplaced, bidByte, bidAnswer, isGranted, answered, bidReading, bid, againSet, againReading, bids, serve, afterCalls, grantCount, roundCalls}
-use Rattle.model.specs.Route.{walk, stepsFrom, walked, routeFrom, routeSet, routeReading, route}
-use Rattle.model.proofs.Tests.{by-test, or-right}
+use Rattle.model.specs.Read.{read}
+use Rattle.model.specs.Slice.{over}
+use Rattle.model.specs.Record.{Record, stateIn, misplaced, mapFits, placed}
+use Rattle.model.specs.Broker.{Bid, granted, finished, busy, held, bidByte, bidAnswer, isGranted, answered, bid, againAnswer}
+use Rattle.model.specs.Broker.{bids, afterList, grantedIn, afterCall, isGrant, grantCount, roundCalls}
+use Rattle.model.specs.Route.{walk, stepsFrom, walked, routeFrom, routeSteps, routeFits, route}
+use Rattle.model.proofs.Bools.{by-bool}
 use Rattle.model.proofs.States.{unfinished-task}
 use Rattle.model.proofs.Sums.{sum-le}
 use Rattle.model.proofs.ReadExact.{read-sound}
@@ -26,8 +28,8 @@ use Rattle.demands.proofs.StatesHold.{of-states}
 use Rattle.demands.proofs.WalkSteps.{walk-is, walk-grid}
 use Rattle.demands.proofs.Placed.{length-at, told-misplaced, in-place, placed-grid}
 
-faults : (words : List ℕ) (n p : ℕ) → read words ≡ faulty n p → OfFaulty words n p
-unfolding analyseReading bidReading againReading routeReading
+faults : (words : List ℕ) (n p : ℕ) → read words ≡ refused n p → OfFaulty words n p
+unfolding _then_ ifGiven isGranted
 faults words n p e = record {
   analyses = λ map plan. rw e;
   bids-refused = λ m r t. rw e;
@@ -35,7 +37,7 @@ faults words n p e = record {
   routes = λ m r slice. rw e;
 }
 
-module _ (words : List ℕ) (s : Set) (is-read : read words ≡ reads s) (r : Record) (full : length (r .positions) ≡ 8) where
+module _ (words : List ℕ) (s : Set) (is-read : read words ≡ given s) (r : Record) (full : length (r .positions) ≡ 8) where
   abbrev ls : List ℕ
   ls = lengthsOf s
 
@@ -59,10 +61,10 @@ module _ (words : List ℕ) (s : Set) (is-read : read words ≡ reads s) (r : Re
   ends p e = of-states ls .end x (grid p) .1 e
 
   ends-not : (Misplaced s r → ⊥) → (x ≡ ls → ⊥) → isEnd ls x ≡ false
-  ends-not p n = by-test (isEnd ls x) (λ e. absurd (n (of-states ls .end x (grid p) .0 e))) (λ e. e)
+  ends-not p n = by-bool (isEnd ls x) (λ e. absurd (n (of-states ls .end x (grid p) .0 e))) (λ e. e)
 
   pub of-again : OfAgain words s r
-  unfolding againReading againSet
+  unfolding _then_ ifGiven placed againAnswer
   of-again = record {
     bad-record = λ b. rw (is-read, told-misplaced s well-formed r b);
     not-ended = λ p n. rw (is-read, in-place s well-formed r p, ends-not p n);
@@ -74,9 +76,9 @@ module _ (words : List ℕ) (s : Set) (is-read : read words ≡ reads s) (r : Re
     module _ (t : ℕ) (q : Ready s r m) where
       on-task : bid words m r t
           ≡ answered r t (cond (leb (length (s .tasks)) t) (refused 17 t)
-          (cond (not (unfinished ls x t)) finished
+          (cond (not (unfinished ls x t)) (given finished)
           (bidByte (byteOf s m (next x t)) (rank ls (next x t)) (deviceOf (actionAt s t (at x t))))))
-      unfolding bidReading bidAnswer
+      unfolding _then_ mapFits placed bidAnswer
       on-task = rw (is-read, le-ltb (length m) (size ls) (q .0), in-place s well-formed r (q .1), q .2)
 
       left-task : at x t < length (taskAt s t) → unfinished ls x t ≡ true
@@ -95,20 +97,21 @@ module _ (words : List ℕ) (s : Set) (is-read : read words ≡ reads s) (r : Re
       named d (inr a) = rw a
 
       held-next : at x t < length (taskAt s t) → (byteOf s m (next x t) ≡ 2) ⊎ (byteOf s m (next x t) ≡ 3)
-          → bid words m r t ≡ unchanged (held (rank ls (next x t))) r
+          → bid words m r t ≡ unchanged (given (held (rank ls (next x t)))) r
       unfolding bidByte isGranted
       held-next l (inl b) = on-byte l ∙ rw b
       held-next l (inr b) = on-byte l ∙ rw b
 
     bad-record : (t : ℕ) → size ls ≤ length m → Misplaced s r ⊎ (byteOf s m x ≡ 0 → ⊥) → bid words m r t ≡ unchanged (refused 16 0) r
-    unfolding bidReading bidAnswer isGranted
+    unfolding _then_ mapFits placed bidAnswer isGranted
     bad-record t h (inl b) = rw (is-read, le-ltb (length m) (size ls) h, told-misplaced s well-formed r b)
     bad-record t h (inr n) =
-        let b = byteOf s m x in
-        rw (is-read, le-ltb (length m) (size ls) h, or-right (misplaced s r) (not (eqb b 0)) (rw (ne-eqb b 0 n)))
+        by-bool (misplaced s r)
+        (λ e. rw (is-read, le-ltb (length m) (size ls) h, e))
+        (λ e. rw (is-read, le-ltb (length m) (size ls) h, e, ne-eqb (byteOf s m x) 0 n))
 
     pub of-bid : (t : ℕ) → OfBid words s r m t
-    unfolding bidReading bidAnswer bidByte isGranted
+    unfolding _then_ mapFits bidAnswer bidByte isGranted
     of-bid t = record {
       map-short = λ h. rw (is-read, lt-ltb (length m) (size ls) h);
       bad-record = bad-record t;
@@ -124,12 +127,17 @@ module _ (words : List ℕ) (s : Set) (is-read : read words ≡ reads s) (r : Re
       abbrev steps : List ℕ
       steps = stepsFrom ls m x
 
-      from-open : Ready s r m → route words m r slice ≡ routeFrom ls m x slice
-      unfolding routeReading routeSet
+      -- the route from an open state, in the slice
+      abbrev fitting : Answer (List ℕ)
+      fitting = routeFrom ls m x then λ ts. routeFits slice ts
+
+      from-open : Ready s r m → route words m r slice
+          ≡ record { answer = fitting then λ ts. given (length ts); route = ifGiven fitting (λ ts. over ts slice) (replicate (length slice) 255) }
+      unfolding _then_ mapFits placed routeSteps
       from-open q = rw (is-read, le-ltb (length m) (size ls) (q .0), in-place s well-formed r (q .1), q .2)
 
       walks : Ready s r m → Walks words s r m slice
-      unfolding routeFrom
+      unfolding _then_ ifGiven routeFrom routeFits
       walks q =
           let g = grid (q .1) in
           let w = walk-is s m (sum ls - sum x) x g (omega (arith, sum-le ls x g)) in
@@ -138,25 +146,26 @@ module _ (words : List ℕ) (s : Set) (is-read : read words ≡ reads s) (r : Re
             steps = steps;
             last = walked x steps;
             walk = w;
-            stuck = λ n. from-open q ∙ rw (by-test (isEnd ls (walked x steps)) (λ e. absurd (n (last .0 e))) (λ e. e));
+            stuck = λ n. from-open q ∙ rw (by-bool (isEnd ls (walked x steps)) (λ e. absurd (n (last .0 e))) (λ e. e));
             short = λ e l. from-open q ∙ rw (last .1 e, lt-ltb (length slice) (length steps) l);
             arrives = λ e l. from-open q ∙ rw (last .1 e, le-ltb (length slice) (length steps) l);
           }
 
       no-route : size ls ≤ length m → (Misplaced s r → ⊥) → (byteOf s m x ≡ 2) ⊎ (byteOf s m x ≡ 3) → route words m r slice ≡ noRoute 20 (rank ls x) slice
-      unfolding routeReading routeSet
+      unfolding _then_ ifGiven mapFits placed routeSteps
       no-route h p (inl b) = rw (is-read, le-ltb (length m) (size ls) h, in-place s well-formed r p, b)
       no-route h p (inr b) = rw (is-read, le-ltb (length m) (size ls) h, in-place s well-formed r p, b)
 
       forbidden-route : size ls ≤ length m → Misplaced s r ⊎ (byteOf s m x ≡ 1) → route words m r slice ≡ noRoute 16 0 slice
-      unfolding routeReading routeSet
+      unfolding _then_ ifGiven mapFits placed routeSteps
       forbidden-route h (inl b) = rw (is-read, le-ltb (length m) (size ls) h, told-misplaced s well-formed r b)
       forbidden-route h (inr e) =
-          let b = byteOf s m x in
-          rw (is-read, le-ltb (length m) (size ls) h, or-right (misplaced s r) (eqb b 1) (eq-eqb b 1 e))
+          by-bool (misplaced s r)
+          (λ f. rw (is-read, le-ltb (length m) (size ls) h, f))
+          (λ f. rw (is-read, le-ltb (length m) (size ls) h, f, e))
 
       pub of-route : OfRoute words s r m slice
-      unfolding routeReading routeSet
+      unfolding _then_ ifGiven mapFits placed routeSteps
       of-route = record {
         map-short = λ h. rw (is-read, lt-ltb (length m) (size ls) h);
         bad-record = forbidden-route;
@@ -168,33 +177,30 @@ module _ (words : List ℕ) (s : Set) (is-read : read words ≡ reads s) (r : Re
       }
 
 -- the count of grants goes by the answer
-module _ (a : Answer) where
-  is-granted : a ≡ granted → isGranted a ≡ true
-  unfolding isGranted
-  is-granted e = rw e
-
-not-granted : (a : Answer) → (a ≡ granted → ⊥) → isGranted a ≡ false
+is-granted : (a : Answer Bid) → a ≡ given granted → isGranted a ≡ true
 unfolding isGranted
-not-granted granted n = absurd (n refl)
-not-granted (planned k) n = refl
-not-granted (routed k) n = refl
-not-granted restarted n = refl
-not-granted finished n = refl
-not-granted (busy d) n = refl
-not-granted (held k) n = refl
+is-granted a e = rw e
+
+not-granted : (a : Answer Bid) → (a ≡ given granted → ⊥) → isGranted a ≡ false
+unfolding isGranted
+not-granted (given granted) n = absurd (n refl)
+not-granted (given finished) n = refl
+not-granted (given (busy d)) n = refl
+not-granted (given (held k)) n = refl
 not-granted (refused k p) n = refl
 
 of-lists : (words m : List ℕ) → OfLists words m
-unfolding serve afterCalls grantCount
+unfolding afterCall isGrant afterList grantedIn
 of-lists words m = record {
   a-bid = λ r t. refl;
   an-again = λ r. refl;
   no-call = λ r. refl;
   more-calls = λ r c cs. refl;
   none-granted = λ r. refl;
-  one-granted = λ r c cs e. ap (λ b. cond b 1 0 + grantCount words m (serve words m r c .after) cs) (is-granted (serve words m r c .answer) e);
-  other-answer = λ r c cs n.
-      ap (λ b. cond b 1 0 + grantCount words m (serve words m r c .after) cs) (not-granted (serve words m r c .answer) n) ∙ omega arith;
+  one-granted = λ r t cs e. ap (λ b. cond b 1 0 + grantCount words m (bid words m r t .after) cs) (is-granted (bid words m r t .answer) e);
+  other-answer = λ r t cs n.
+      ap (λ b. cond b 1 0 + grantCount words m (bid words m r t .after) cs) (not-granted (bid words m r t .answer) n) ∙ omega arith;
+  again-answer = λ r cs. omega arith;
 }
 
 rounds-flat : (rs : List (List ℕ)) → roundCalls rs ≡ map bids (flatten rs)

@@ -5,15 +5,15 @@ use mathlib.Core.Path.{_≡_, refl, ap, _∙_}
 use mathlib.Core.Logic.{_↔_, Iff·trans}
 use mathlib.Core.List.{List, [], _∷_, List·Memᴰ, List·Memᴰ·not-nil, List·Memᴰ·cases-cons}
 use lib.ListN.{length, drop}
+use Rattle.model.specs.Answer.{given}
 use Rattle.model.specs.Set.{Set, lengthsOf, size}
 use Rattle.model.specs.State.{stateAt}
 use Rattle.model.specs.Read.{setIn}
 use Rattle.model.specs.Hold.{permitted}
 use Rattle.model.specs.Run.{Dead}
 use Rattle.model.specs.Plan.{AscendingFrom, deadOf, planOf, planWords, planFrom}
-use Rattle.model.specs.Answer.{planned}
 use Rattle.model.specs.Analysis.{analyse}
-use Rattle.model.proofs.Tests.{by-cases}
+use Rattle.model.proofs.Bools.{by-cases}
 use Rattle.model.proofs.Ranks.{stateAt-grid}
 use Rattle.model.proofs.ForbiddenExact.{forbidden-exact}
 use Rattle.model.proofs.DeadRanks.{dead-ascending, dead-exact}
@@ -51,7 +51,7 @@ plan-exact s = record {
 }
 
 -- an accepted analysis leaves the plan of the set that the words declare
-pub plan-left : (words map plan : List ℕ) (n : ℕ) → analyse words map plan .answer ≡ planned n
+pub plan-left : (words map plan : List ℕ) (n : ℕ) → analyse words map plan .answer ≡ given n
     → planFrom (analyse words map plan .plan) ≡ planOf (setIn words)
 plan-left words map plan n e =
     let r = accepted-made words map plan n e in

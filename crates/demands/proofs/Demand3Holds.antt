@@ -6,13 +6,13 @@ use Rattle.model.specs.Layout.{WellFormed}
 use Rattle.model.specs.Read.{read, setIn}
 use Rattle.model.specs.Hold.{permitted}
 use Rattle.model.specs.Forbidden.{forbiddenBoxes}
-use Rattle.model.specs.Broker.{roundCalls}
+use Rattle.model.specs.Record.{fresh}
+use Rattle.model.specs.Broker.{Call, afterCalls, roundCalls}
 use Rattle.model.specs.Plan.{planOf}
 use Rattle.model.proofs.ForbiddenExact.{forbidden-permitted}
 use Rattle.model.proofs.UnsafeComplete.{unsafe-exact}
-use Rattle.model.proofs.Records.{Carries, over-carries}
-use Rattle.model.proofs.GrantNumber.{grant-number}
-use Rattle.model.proofs.BrokerRecord.{calls-grid, calls-open, calls-no-forbidden-box, calls-no-unsafe-box, rounds-finish}
+use Rattle.model.proofs.Records.{Carries, over-carries, InService}
+use Rattle.model.proofs.BrokerRecord.{no-forbidden-box, no-unsafe-box, grant-number, calls-serve, rounds-finish}
 use Rattle.model.proofs.ReadExact.{read-sound}
 use Rattle.model.proofs.Outcome.{Mapped, accepted-made, short-made}
 use Rattle.demands.specs.Demand3.{stateAfter, OfMap, OfPlan, Demand3}
@@ -29,16 +29,20 @@ module _ (words map made : List ℕ) (mapped : Mapped (read words) map made) whe
   lent : Carries (setIn words) made
   lent = rw (mapped .is-made) (over-carries (setIn words) map)
 
+  -- after every list of calls the record is in service
+  serves : (cs : List Call) → InService (setIn words) (afterCalls words made fresh cs)
+  serves = calls-serve words made (setIn words) well-formed (mapped .is-read) lent
+
   of-map : OfMap words made
   of-map = record {
     bytes = bytes-right (setIn words) made lent;
     open-after = λ cs.
-        let g = calls-grid words made (setIn words) well-formed (mapped .is-read) lent cs in
-        (g, open-both (setIn words) (stateAfter words made cs) g .0 (calls-open words made (setIn words) well-formed (mapped .is-read) lent cs));
+        let g = serves cs .good in
+        (g .grid, open-both (setIn words) (stateAfter words made cs) (g .grid) .0 (g .is-open));
     counted = grant-number words made;
     finished = λ rs named enough.
         of-states (lengthsOf (setIn words)) .end (stateAfter words made (roundCalls rs))
-        (calls-grid words made (setIn words) well-formed (mapped .is-read) lent (roundCalls rs)) .0
+        (serves (roundCalls rs) .good .grid) .0
         (rounds-finish words made (setIn words) well-formed (mapped .is-read) lent rs named enough);
   }
 
@@ -50,10 +54,7 @@ module _ (words map made : List ℕ) (mapped : Mapped (read words) map made) whe
         let c = can-end s x g in
         let u = unsafe-exact (lengthsOf s) (permitted s) (forbiddenBoxes s) (forbidden-permitted s) x g p in
         ((λ e r. u .0 e (c .1 r)), (λ n. u .1 (λ e. n (c .0 e))));
-    no-box = λ cs. (
-      calls-no-forbidden-box words made (setIn words) well-formed (mapped .is-read) lent cs,
-      calls-no-unsafe-box words made (setIn words) well-formed (mapped .is-read) lent cs,
-    );
+    no-box = λ cs. let g = serves cs .good in (no-forbidden-box (setIn words) _ g, no-unsafe-box (setIn words) _ g);
   }
 
 pub demand3 : Demand3

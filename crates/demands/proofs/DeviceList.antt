@@ -9,7 +9,7 @@ use lib.ListN.{length, length-map}
 use Rattle.model.specs.Set.{Task, at}
 use Rattle.model.specs.Box.{Box}
 use Rattle.model.specs.Forbidden.{TaskSet, choose, boxesOf, boxesOfAll, deviceBoxes, Forbidden, forbiddenFrom}
-use Rattle.model.proofs.Tests.{by-cases}
+use Rattle.model.proofs.Bools.{by-cases}
 use Rattle.model.proofs.Each.{Each}
 use Rattle.demands.specs.Terms.{before, Ordered}
 use Rattle.demands.specs.ForbiddenRule.{taskList, Precedes}

@@ -1,6 +1,6 @@
 -- The examples hold: each by computing the definitions.
 use mathlib.Core.Path.{refl}
-use Rattle.model.specs.Test.{any, tabulate, maximum}
+use Rattle.model.specs.Below.{any, tabulate, maximum}
 use Rattle.model.specs.Set.{deviceOf, size}
 use Rattle.model.specs.Read.{lastTask, addAction, heldAfter, note, outOfOrder, fieldAllowed, tooMany, fault, close, readFrom, read}
 use Rattle.model.specs.State.{isEnd, sum, weight, rank, stateAt}
@@ -11,13 +11,15 @@ use Rattle.model.specs.Map.{stepsOnto, byte, lastBytes, bytes}
 use Rattle.model.specs.UnsafeBoxes.{getsBox, blockerLow, unsafeBox, lastUnsafe, unsafeBoxes}
 use Rattle.model.specs.Layout.{withEnd}
 use Rattle.model.specs.Plan.{ranksFrom, sideWords, forbiddenWords, unsafeWords, planWords}
-use Rattle.model.specs.Analysis.{analyseSet, analyseReading}
-use Rattle.model.specs.Broker.{misplaced, bidByte, bidAnswer, isGranted, bidReading, serve, afterCalls}
-use Rattle.model.specs.Route.{stepFrom, walk, walked, routeFrom, routeSet, routeReading}
+use Rattle.model.specs.Answer.{_then_, ifGiven}
+use Rattle.model.specs.Record.{misplaced, mapFits, placed}
+use Rattle.model.specs.Analysis.{planFits}
+use Rattle.model.specs.Broker.{bidByte, bidAnswer, isGranted, afterCall, afterList}
+use Rattle.model.specs.Route.{stepFrom, walk, walked, routeFrom, routeSteps, routeFits}
 use Rattle.demands.specs.Examples.{answers, Examples}
 
 pub examples-hold : Examples
-unfolding any tabulate maximum deviceOf size lastTask addAction heldAfter note outOfOrder fieldAllowed tooMany fault close readFrom read isEnd sum weight rank stateAt heldTo holdsFrom holding unitsHeld permitted inside covered firstBox choose prefixed sidesOf boxesOf boxesOfAll deviceBoxes forbiddenFrom forbidden stepsOnto byte lastBytes bytes getsBox blockerLow unsafeBox lastUnsafe unsafeBoxes withEnd ranksFrom sideWords forbiddenWords unsafeWords planWords analyseSet analyseReading misplaced bidByte bidAnswer isGranted bidReading serve afterCalls stepFrom walk walked routeFrom routeSet routeReading answers
+unfolding any tabulate maximum deviceOf size lastTask addAction heldAfter note outOfOrder fieldAllowed tooMany fault close readFrom read isEnd sum weight rank stateAt heldTo holdsFrom holding unitsHeld permitted inside covered firstBox choose prefixed sidesOf boxesOf boxesOfAll deviceBoxes forbiddenFrom forbidden stepsOnto byte lastBytes bytes getsBox blockerLow unsafeBox lastUnsafe unsafeBoxes withEnd ranksFrom sideWords forbiddenWords unsafeWords planWords _then_ ifGiven mapFits planFits misplaced placed bidByte bidAnswer isGranted afterCall afterList stepFrom walk walked routeFrom routeSteps routeFits answers
 examples-hold = record {
   a-answer = refl;
   a-plan = refl;

@@ -12,7 +12,7 @@ use borrow.Author.Tests.{eqb-true, eqb-false, eq-eqb}
 use Rattle.model.specs.Set.{Action, claim, release, Task, balanced}
 use Rattle.model.specs.Hold.{Interval, heldTo, holdsFrom, holds}
 use Rattle.model.specs.Read.{heldAfter}
-use Rattle.model.proofs.Tests.{by-test, by-cases, true-not-false}
+use Rattle.model.proofs.Bools.{by-bool, by-cases, true-not-false}
 use Rattle.model.proofs.Held.{balanced-next}
 use Rattle.demands.specs.Terms.{_to_, Ordered}
 use Rattle.demands.specs.Holds.{IsHold}
@@ -41,11 +41,11 @@ module _ (d : ℕ) where
   unfolding balanced
   first-release [] b = true-not-false false b refl
   first-release (claim e ∷ task) b =
-      by-test (eqb e d)
+      by-bool (eqb e d)
       (λ k. true-not-false false (rw k at b) refl)
       (λ k. let r = first-release task (rw k at b) in (suc (r .0), until-later (claim e) task (r .0) (not-both d e refl) (r .1)))
   first-release (release e ∷ task) b =
-      by-test (eqb e d)
+      by-bool (eqb e d)
       (λ k. (0, record { inside = omega arith; released = ap release (eqb-true e d k); unbroken = λ r l. absurd (omega arith) }))
       (λ k.
       let r = first-release task (rw k at b) in
@@ -62,7 +62,7 @@ module _ (d : ℕ) where
       let same : e ≡ d = cc in
       rw (eq-eqb e d same) (omega arith)
   held-until p (release e ∷ task) (suc q) u =
-      by-test (eqb e d)
+      by-bool (eqb e d)
       (λ k. absurd (u .unbroken 0 (omega arith) (ap release (eqb-true e d k))))
       (λ k. rw k (omega (arith, held-until (suc p) task q (until-rest (release e) task q u))))
 
@@ -95,7 +95,7 @@ module _ (d : ℕ) where
   listed-spans p h (claim e ∷ task) i b m =
       let later : List·Memᴰ i (holdsFrom d (suc p) task) → Spans p (claim e ∷ task) i =
       λ n. spans-later p (claim e) task i (listed-spans (suc p) _ task i (balanced-next d h (claim e) task b) n) in
-      by-test (eqb e d)
+      by-bool (eqb e d)
       (λ k. by-cases (List·Memᴰ·cases-cons (rw k at m)) (λ q. rw q (first k)) later)
       (λ k. later (rw k at m))
     where
@@ -125,18 +125,18 @@ module _ (d : ℕ) where
       spans-listed (suc p) task i start lasting (omega arith) (omega arith) c (omega arith) u
   spans-listed p (claim e ∷ task) i (suc start) lasting l h c n u =
       let rest = spans-listed (suc p) task i start lasting (omega arith) (omega arith) c (omega arith) u in
-      by-test (eqb e d) (λ k. rw k (List·Memᴰ·tail rest)) (λ k. rw k rest)
+      by-bool (eqb e d) (λ k. rw k (List·Memᴰ·tail rest)) (λ k. rw k rest)
 
   -- a device held now is released before its next hold
   before-next : (p : ℕ) (task : Task) → balanced d true task ≡ true → (i : Interval) → List·Memᴰ i (holdsFrom d p task) → heldTo d p task < i .low
   unfolding balanced heldTo holdsFrom
   before-next p [] b i m = absurd (List·Memᴰ·not-nil m)
   before-next p (claim e ∷ task) b i m =
-      by-test (eqb e d)
+      by-bool (eqb e d)
       (λ k. true-not-false false (rw k at b) refl)
       (λ k. before-next (suc p) task (rw k at b) i (rw k at m))
   before-next p (release e ∷ task) b i m =
-      by-test (eqb e d)
+      by-bool (eqb e d)
       (λ k.
       let s = listed-spans (suc p) false task i (rw k at b) m in
       rw k (omega arith))
@@ -149,7 +149,7 @@ module _ (d : ℕ) where
   holds-rise p h (claim e ∷ task) b =
       let next = balanced-next d h (claim e) task b in
       let rest = holds-rise (suc p) _ task next in
-      by-test (eqb e d) (λ k. rw k (before-next (suc p) task (rw k at next), rest)) (λ k. rw k rest)
+      by-bool (eqb e d) (λ k. rw k (before-next (suc p) task (rw k at next), rest)) (λ k. rw k rest)
 
 -- of a whole task
 module _ (d : ℕ) (task : Task) (i : Interval) where

@@ -5,7 +5,7 @@ use mathlib.Core.Path.{_≡_, refl}
 use mathlib.Core.Bool.{Bool, false, cond}
 use mathlib.Core.List.{List, [], _∷_}
 use lib.ListN.{length, getD}
-use Rattle.model.specs.Test.{any}
+use Rattle.model.specs.Below.{any}
 use Rattle.model.specs.Set.{Task, lengths, taskAt, at, size}
 use Rattle.model.specs.State.{State, InGrid, isEnd, weight, stateAt}
 use Rattle.model.specs.Hold.{heldTo, holdsFrom, holds, holding, held, permitted}

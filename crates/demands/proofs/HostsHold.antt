@@ -1,24 +1,42 @@
 -- A host hears what was told.
+use Prim.Native.Nat.{ℕ}
 use mathlib.Core.Path.{_≡_, refl, sym, ap, _∙_}
-use Rattle.model.specs.Answer.{Answer, planned, routed, restarted, granted, finished, busy, held, refused}
-use Rattle.model.specs.Told.{tell, hear, tellReading}
+use Rattle.model.specs.Answer.{Answer, given, refused}
+use Rattle.model.specs.Broker.{Bid, granted, finished, busy, held, Again, restarted}
+use Rattle.model.specs.Told.{Told, tell, bidNumbers, tellAnalysis, tellRoute, tellBid, tellAgain, hear, bidHeard, hearNumber, hearBid, hearAgain}
 use Rattle.demands.specs.Hosts.{Hosts}
 
-hears : (a : Answer) → hear (tell a) ≡ a
+hears-analysis : (a : Answer ℕ) → hearNumber (tellAnalysis a) ≡ a
 unfolding tell hear
-hears (planned n) = refl
-hears (routed n) = refl
-hears restarted = refl
-hears granted = refl
-hears finished = refl
-hears (busy d) = refl
-hears (held r) = refl
-hears (refused n p) = refl
+hears-analysis (given n) = refl
+hears-analysis (refused n p) = refl
+
+hears-route : (a : Answer ℕ) → hearNumber (tellRoute a) ≡ a
+unfolding tell hear
+hears-route (given n) = refl
+hears-route (refused n p) = refl
+
+hears-bid : (a : Answer Bid) → hearBid (tellBid a) ≡ a
+unfolding tell hear bidNumbers bidHeard
+hears-bid (given granted) = refl
+hears-bid (given finished) = refl
+hears-bid (given (busy d)) = refl
+hears-bid (given (held r)) = refl
+hears-bid (refused n p) = refl
+
+hears-again : (a : Answer Again) → hearAgain (tellAgain a) ≡ a
+unfolding tell hear
+hears-again (given restarted) = refl
+hears-again (refused n p) = refl
+
+-- what is heard as it was told is told apart
+apart : {A : Type 0} (tells : A → Told) (hears : Told → A) → ((a : A) → hears (tells a) ≡ a) → (a b : A) → tells a ≡ tells b → a ≡ b
+apart tells hears same a b e = sym (same a) ∙ ap hears e ∙ same b
 
 pub hosts-hold : Hosts
-unfolding tell tellReading
+unfolding tell bidNumbers
 hosts-hold = record {
-  of-refused = λ n p. refl;
+  of-refused = λ n p. (refl, refl, refl, refl);
   of-planned = λ n. refl;
   of-routed = λ n. refl;
   of-granted = refl;
@@ -28,6 +46,11 @@ hosts-hold = record {
   of-restarted = refl;
   of-accepted = λ s. refl;
   of-faulty = λ n p. refl;
-  heard-told = hears;
-  told-apart = λ a b e. sym (hears a) ∙ ap hear e ∙ hears b;
+  heard-told = (hears-analysis, hears-route, hears-bid, hears-again);
+  told-apart = (
+    apart tellAnalysis hearNumber hears-analysis,
+    apart tellRoute hearNumber hears-route,
+    apart tellBid hearBid hears-bid,
+    apart tellAgain hearAgain hears-again,
+  );
 }

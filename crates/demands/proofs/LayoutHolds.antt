@@ -12,7 +12,7 @@ use borrow.Author.Tests.{eqb-true, eq-eqb}
 use Rattle.model.specs.Set.{Action, claim, release, deviceOf, Task, Set, taskAt, actionAt, balanced}
 use Rattle.model.specs.Layout.{word, DEVICE, END, actionWord, taskWords, body, withEnd, WellFormed}
 use Rattle.model.specs.Read.{heldAfter}
-use Rattle.model.proofs.Tests.{by-test, true-not-false}
+use Rattle.model.proofs.Bools.{by-bool, true-not-false}
 use Rattle.model.proofs.Held.{held-append, releases, balanced-on, balanced-first, balanced-next, balanced-close}
 use Rattle.demands.specs.Terms.{StillHeld}
 use Rattle.demands.specs.Reading.{InLayout}
@@ -66,7 +66,7 @@ module _ (d : ℕ) (task : Task) (k : ℕ) (l : k ≤ length task) where
   not-still e h = true-not-false (heldAfter d false (take k task)) (still-walk h) e
 
   walk-not : (StillHeld d task k → ⊥) → heldAfter d false (take k task) ≡ false
-  walk-not n = by-test (heldAfter d false (take k task)) (λ e. absurd (n (walk-still d task k l .0 e))) (λ e. e)
+  walk-not n = by-bool (heldAfter d false (take k task)) (λ e. absurd (n (walk-still d task k l .0 e))) (λ e. e)
 
 -- a task balanced for each device, and each sentence on claims and releases
 module _ (task : Task) where

@@ -10,7 +10,7 @@ use lib.Dec.{eqb, ltb, leb}
 use borrow.Author.Tests.{lt-ltb, le-ltb, le-leb, lt-leb, ne-eqb}
 use Rattle.model.specs.Set.{Task}
 use Rattle.model.specs.Read.{lastTask, heldAfter, holdsSome, outOfOrder, fieldAllowed, tooMany, fault}
-use Rattle.model.proofs.Tests.{by-test, true-not-false, and-true}
+use Rattle.model.proofs.Bools.{by-bool, true-not-false, and-true}
 use Rattle.model.proofs.Faults.{scanOf}
 use Rattle.demands.specs.Turned.{kind, field, Holds, IsAction, Brings, after-end, no-kind, late-device, early, bad-capacity, task-field, undeclared, end-field, device-17, task-9, action-256, claims-held, releases-free, holds-on}
 use Rattle.demands.proofs.ReadSoFar.{Going}
@@ -119,7 +119,7 @@ module _ (cs : List ℕ) (ts : List Task) (i f : ℕ) where
 -- a number that is not 1 to b
 outside : (b k : ℕ) → (k ≡ 0) ⊎ (b < k) → (leb 1 k && leb k b) ≡ false
 outside b k (inl z) = rw z
-outside b k (inr l) = by-test (leb 1 k && leb k b) (λ e. true-not-false _ (and-true (leb 1 k) (leb k b) e .1) (lt-leb k b l)) (λ e. e)
+outside b k (inr l) = by-bool (leb 1 k && leb k b) (λ e. true-not-false _ (and-true (leb 1 k) (leb k b) e .1) (lt-leb k b l)) (λ e. e)
 
 module _ (ws : List ℕ) (i : ℕ) (cs : List ℕ) (ts : List Task) (g : Going ws i cs ts) where
   -- a CLAIM's or RELEASE's number
@@ -146,7 +146,7 @@ module _ (ws : List ℕ) (i : ℕ) (cs : List ℕ) (ts : List Task) (g : Going w
   going-within n (releases-free k h) = rw k (release-9 cs ts i (field ws i) (not-held (field ws i) h))
     where
       not-held : (d : ℕ) → (Holds ws i d → ⊥) → heldAfter d false (lastTask ts) ≡ false
-      not-held d none = by-test (heldAfter d false (lastTask ts)) (λ e. absurd (none (g .held d e))) (λ e. e)
+      not-held d none = by-bool (heldAfter d false (lastTask ts)) (λ e. absurd (none (g .held d e))) (λ e. e)
   going-within n (holds-on (inl k) d h) = rw k (task-10 cs ts i (field ws i) (holds-some ws i cs ts g d h))
   going-within n (holds-on (inr k) d h) = rw k (end-10 cs ts i (field ws i) (holds-some ws i cs ts g d h))
 

@@ -8,13 +8,13 @@ use mathlib.Core.List.{List, [], _∷_}
 use lib.ListN.{length}
 use lib.Dec.{eqb}
 use borrow.Author.Tests.{eqb-true, eqb-false, ltb-true, lt-ltb}
-use Rattle.model.specs.Test.{any}
+use Rattle.model.specs.Below.{any}
 use Rattle.model.specs.Set.{Set, lengthsOf, at}
 use Rattle.model.specs.State.{State, InGrid, next, unfinished, isEnd, sum, rank}
 use Rattle.model.specs.Hold.{permitted}
-use Rattle.model.specs.Run.{CanEnd, ended, step, allowed, Open, Dead}
+use Rattle.model.specs.Run.{CanEnd, is-end, step, allowed, Open, Dead}
 use Rattle.model.specs.Map.{Byte}
-use Rattle.model.proofs.Tests.{by-test, true-not-false, and-true, any-true, any-false}
+use Rattle.model.proofs.Bools.{by-bool, true-not-false, and-true, any-true, any-false}
 use Rattle.model.proofs.States.{unfinished-task, next-grid}
 use Rattle.model.proofs.Ranks.{rank-lt}
 use Rattle.model.proofs.Sums.{sum-next, sum-lt}
@@ -33,14 +33,14 @@ module _ (s : Set) where
   left x t h = lt-ltb (at x t) (at ls t) h
 
   can-reach : (x : State) → InGrid ls x → CanEnd ls (permitted s) x → ReachesEnd s x
-  can-reach x g (ended e) = ([], of-states ls .end x g .0 e)
+  can-reach x g (is-end e) = ([], of-states ls .end x g .0 e)
   can-reach x g (step t a c) =
       let q = and-true (unfinished ls x t) (permitted s (next x t)) a in
       let r = can-reach (next x t) (next-grid ls x g t (q .0)) c in
       (t ∷ r .0, (ltb-true (at x t) (at ls t) (q .0), q .1, r .1))
 
   reach-can : (x : State) → InGrid ls x → (ts : List ℕ) → Leads s x ts ls → CanEnd ls (permitted s) x
-  reach-can x g [] e = ended (of-states ls .end x g .1 e)
+  reach-can x g [] e = is-end (of-states ls .end x g .1 e)
   reach-can x g (t ∷ ts) l =
       let u = left x t (l .0) in
       step {x = x} t (rw (u, l .1)) (reach-can (next x t) (next-grid ls x g t u) ts (l .2))
@@ -52,13 +52,13 @@ module _ (s : Set) where
   dead-is x g d = record {
     is-permitted = d .is-permitted;
     not-the-end = λ e. true-not-false (isEnd ls x) (of-states ls .end x g .1 e) (d .not-the-end);
-    no-step = λ t h. by-test (permitted s (next x t)) (λ p. absurd (d .no-step t (rw (left x t h, p)))) (λ p. p);
+    no-step = λ t h. by-bool (permitted s (next x t)) (λ p. absurd (d .no-step t (rw (left x t h, p)))) (λ p. p);
   }
 
   is-dead : (x : State) → InGrid ls x → IsDead s x → Dead ls (permitted s) x
   is-dead x g d = record {
     is-permitted = d .is-permitted;
-    not-the-end = by-test (isEnd ls x) (λ e. absurd (d .not-the-end (of-states ls .end x g .0 e))) (λ e. e);
+    not-the-end = by-bool (isEnd ls x) (λ e. absurd (d .not-the-end (of-states ls .end x g .0 e))) (λ e. e);
     no-step = λ t a.
         let q = and-true (unfinished ls x t) (permitted s (next x t)) a in
         true-not-false (permitted s (next x t)) (q .1) (d .no-step t (ltb-true (at x t) (at ls t) (q .0)));
@@ -76,7 +76,7 @@ module _ (s : Set) where
     is-permitted = u .0;
     not-the-end = λ q. u .1 ([], q);
     no-step = λ t l.
-        by-test (permitted s (next x t))
+        by-bool (permitted s (next x t))
         (λ p. true-not-false (allowed ls (permitted s) x t) (rw (left x t l, p))
         (any-false (length ls) (allowed ls (permitted s) x) e t (unfinished-task ls x t (left x t l))))
         (λ p. p);
@@ -85,14 +85,14 @@ module _ (s : Set) where
   -- and with one it steps to an unsafe state, until no action is left
   unsafe-dead : (k : ℕ) (x : State) → InGrid ls x → sum ls ≤ sum x + k → IsUnsafe s x → (ts : List ℕ) × (y : State) × Leads s x ts y × IsDead s y
   unsafe-dead zero x g h u =
-      by-test (someAllowed x)
+      by-bool (someAllowed x)
       (λ e.
       let r = any-true (length ls) (allowed ls (permitted s) x) e in
       let q = and-true (unfinished ls x (r .0)) (permitted s (next x (r .0))) (r .2) in
       absurd (omega (arith, sum-lt ls x g (r .0) (ltb-true (at x (r .0)) (at ls (r .0)) (q .0)))))
       (λ e. ([], x, refl, stuck x u e))
   unsafe-dead (suc k) x g h u =
-      by-test (someAllowed x)
+      by-bool (someAllowed x)
       (λ e.
       let r = any-true (length ls) (allowed ls (permitted s) x) e in
       let t = r .0 in
@@ -141,7 +141,7 @@ module _ (s : Set) (m : List ℕ) (b : Bytes s m) (x : State) (g : InGrid (lengt
   unsafe-byte u =
       let not-open : own ≡ 0 → ⊥ = λ e. u .1 (b .open-state x g .0 e .1) in
       let not-forbidden : own ≡ 1 → ⊥ = λ e. true-not-false (permitted s x) (u .0) (b .forbidden x g .0 e) in
-      by-test (eqb own 2) (λ e. inl (eqb-true own 2 e)) (λ e. inr (omega (arith, b .no-other x g, not-open, not-forbidden, eqb-false own 2 e)))
+      by-bool (eqb own 2) (λ e. inl (eqb-true own 2 e)) (λ e. inr (omega (arith, b .no-other x g, not-open, not-forbidden, eqb-false own 2 e)))
 
   pub byte-unsafe : (own ≡ 2) ⊎ (own ≡ 3) → IsUnsafe s x
   byte-unsafe (inl e) = b .unsafe x g .0 e .0

@@ -5,7 +5,7 @@ use mathlib.Core.Bool.{true, _&&_}
 use mathlib.Core.List.{List, [], _∷_, _++_, map, List·Memᴰ, List·Memᴰ·head, List·Memᴰ·tail, List·Memᴰ·append-cases, Memᴰ·of-map}
 use lib.Dec.{eqb, ltb}
 use borrow.Author.Tests.{lt-ltb, eq-eqb}
-use Rattle.model.proofs.Tests.{by-cases, or-right}
+use Rattle.model.proofs.Bools.{by-cases, or-right}
 use Rattle.demands.specs.Terms.{before, Ordered}
 
 module _ {A : Type 0} (R : A → A → Type 0) where

@@ -1,6 +1,6 @@
 -- The facts of the five philosophers hold, by computing the definitions.
 use mathlib.Core.Path.{refl}
-use Rattle.model.specs.Test.{any, tabulate, maximum}
+use Rattle.model.specs.Below.{any, tabulate, maximum}
 use Rattle.model.specs.Set.{size}
 use Rattle.model.specs.State.{isEnd, weight, stateAt}
 use Rattle.model.specs.Hold.{heldTo, holdsFrom, holding, held, permitted}

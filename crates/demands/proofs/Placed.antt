@@ -12,8 +12,8 @@ use borrow.Author.Tests.{ltb-true, ltb-false, lt-ltb}
 use Rattle.model.specs.Set.{Set, lengthsOf, taskAt, at}
 use Rattle.model.specs.Layout.{WellFormed}
 use Rattle.model.specs.State.{InGrid}
-use Rattle.model.specs.Broker.{Record, stateIn, misplaced}
-use Rattle.model.proofs.Tests.{by-test, any-true, any-false, any-intro}
+use Rattle.model.specs.Record.{Record, stateIn, misplaced}
+use Rattle.model.proofs.Bools.{by-bool, any-true, any-false, any-intro}
 use Rattle.demands.specs.Calls.{Misplaced}
 
 -- the action count of a task, 0 for an absent one
@@ -34,7 +34,7 @@ module _ (s : Set) (w : WellFormed s) (r : Record) where
       let q = any-true 8 over e in
       let t = q .0 in
       let l = ltb-true (at (lengthsOf s) t) (at (r .positions) t) (q .2) in
-      by-test (ltb t (length (s .tasks)))
+      by-bool (ltb t (length (s .tasks)))
       (λ h. inl (t, ltb-true t (length (s .tasks)) h, omega (arith, length-at s t)))
       (λ h. inr (t, ltb-false t (length (s .tasks)) h, q .1, λ z. omega (arith, l)))
 
@@ -47,14 +47,14 @@ module _ (s : Set) (w : WellFormed s) (r : Record) where
       any-intro 8 over (q .0) (q .2) (lt-ltb (at (lengthsOf s) (q .0)) (at (r .positions) (q .0)) (omega (arith, nonzero, absent-length s (q .0) (q .1))))
 
   pub in-place : (Misplaced s r → ⊥) → misplaced s r ≡ false
-  in-place n = by-test (misplaced s r) (λ e. absurd (n (misplaced-told e))) (λ e. e)
+  in-place n = by-bool (misplaced s r) (λ e. absurd (n (misplaced-told e))) (λ e. e)
 
 -- a record whose positions are in place gives a state of the grid
 pub placed-grid : (s : Set) → WellFormed s → (r : Record) → length (r .positions) ≡ 8 → misplaced s r ≡ false → InGrid (lengthsOf s) (stateIn s r)
 unfolding misplaced
 placed-grid s w r full placed = record {
   count = few ∙ sym (length-map (s .tasks) length);
-  fits = λ t. by-test (ltb t (length (s .tasks)))
+  fits = λ t. by-bool (ltb t (length (s .tasks)))
       (λ e.
       let h = ltb-true t (length (s .tasks)) e in
       rw (getD-take (length (s .tasks)) (r .positions) t 0 h)

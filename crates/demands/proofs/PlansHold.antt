@@ -1,6 +1,6 @@
 -- The five plans hold, by computing the definitions.
 use mathlib.Core.Path.{refl}
-use Rattle.model.specs.Test.{any, tabulate, maximum}
+use Rattle.model.specs.Below.{any, tabulate, maximum}
 use Rattle.model.specs.Set.{size}
 use Rattle.model.specs.Read.{lastTask, addAction, heldAfter, note, outOfOrder, fieldAllowed, tooMany, fault, close, readFrom, read}
 use Rattle.model.specs.State.{isEnd, weight, stateAt}
@@ -11,10 +11,12 @@ use Rattle.model.specs.Map.{stepsOnto, byte, lastBytes, bytes}
 use Rattle.model.specs.UnsafeBoxes.{getsBox, blockerLow, unsafeBox, lastUnsafe, unsafeBoxes}
 use Rattle.model.specs.Layout.{withEnd}
 use Rattle.model.specs.Plan.{ranksFrom, sideWords, forbiddenWords, unsafeWords, planWords}
-use Rattle.model.specs.Analysis.{analyseSet, analyseReading}
+use Rattle.model.specs.Answer.{_then_, ifGiven}
+use Rattle.model.specs.Record.{mapFits}
+use Rattle.model.specs.Analysis.{planFits}
 use Rattle.demands.specs.Terms.{times}
 use Rattle.demands.specs.Plans.{Plans}
 
 pub plans-hold : Plans
-unfolding any tabulate maximum size lastTask addAction heldAfter note outOfOrder fieldAllowed tooMany fault close readFrom read isEnd weight stateAt heldTo holdsFrom holding unitsHeld permitted inside covered firstBox choose prefixed sidesOf boxesOf boxesOfAll deviceBoxes forbiddenFrom forbidden stepsOnto byte lastBytes bytes getsBox blockerLow unsafeBox lastUnsafe unsafeBoxes withEnd ranksFrom sideWords forbiddenWords unsafeWords planWords analyseSet analyseReading times
+unfolding any tabulate maximum size lastTask addAction heldAfter note outOfOrder fieldAllowed tooMany fault close readFrom read isEnd weight stateAt heldTo holdsFrom holding unitsHeld permitted inside covered firstBox choose prefixed sidesOf boxesOf boxesOfAll deviceBoxes forbiddenFrom forbidden stepsOnto byte lastBytes bytes getsBox blockerLow unsafeBox lastUnsafe unsafeBoxes withEnd ranksFrom sideWords forbiddenWords unsafeWords planWords _then_ ifGiven mapFits planFits times
 plans-hold = record { m-plan = refl; n-plan = refl; o-plan = refl; p-plan = refl; q-plan = refl }

@@ -12,7 +12,7 @@ use borrow.Author.Tests.{ltb-true, ltb-false, eqb-true, eqb-false, eq-eqb, ne-eq
 use Rattle.model.specs.Set.{Action, claim, release, Task, Set}
 use Rattle.model.specs.Layout.{word, DEVICE, TASK, CLAIM, RELEASE, END, actionWord, taskWords, body, withEnd, encode}
 use Rattle.model.specs.Read.{lastTask, addAction, heldAfter, Scan, note, outOfOrder, fieldAllowed}
-use Rattle.model.proofs.Tests.{by-cases, true-not-false, and-true, or-true, or-right}
+use Rattle.model.proofs.Bools.{by-cases, true-not-false, and-true, or-true, or-right}
 use Rattle.model.proofs.Held.{count-add, last-added, held-append}
 use Rattle.model.proofs.Words.{setWith, body-device, body-task}
 use Rattle.model.proofs.Faults.{scanOf, Passes}

@@ -1,6 +1,6 @@
 -- Reading: its examples by computing the definitions.
 use mathlib.Core.Path.{refl}
-use Rattle.model.specs.Test.{any}
+use Rattle.model.specs.Below.{any}
 use Rattle.model.specs.Set.{size}
 use Rattle.model.specs.Read.{lastTask, addAction, heldAfter, note, outOfOrder, fieldAllowed, tooMany, fault, close, readFrom, read}
 use Rattle.model.proofs.Parity.{length-even, grid-odd}

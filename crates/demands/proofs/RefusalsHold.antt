@@ -1,96 +1,137 @@
--- Each call refuses with its listed numbers only: its definition gone through, branch by branch.
-use Prim.Native.Nat.{ℕ, _≤_}
+-- Each call refuses with its listed numbers only: refusals first, so each check keeps to the list by itself.
+use Prim.Native.Nat.{ℕ, _<_, _≤_}
 use native.Mathlib.Omega.{arith}
-use mathlib.Core.Path.{_≡_, refl}
+use native.Mathlib.Nat.{eq-or-lt-of-le}
+use mathlib.Core.Path.{_≡_, refl, sym}
 use mathlib.Core.Bool.{Bool, true, false, not, cond, _||_}
-use mathlib.Core.List.{List}
+use mathlib.Core.List.{List, [], _∷_, _++_, List·Memᴰ, List·Memᴰ·head, List·Memᴰ·tail}
 use lib.ListN.{length}
 use lib.Dec.{eqb, ltb, leb}
-use borrow.Author.Tests.{le-leb}
-use Rattle.model.specs.Set.{lengthsOf, at, size}
+use borrow.Author.Tests.{eqb-true}
+use Rattle.model.specs.Answer.{Answer, given, refused, _then_}
+use Rattle.model.specs.Set.{Set, lengthsOf, at, size}
 use Rattle.model.specs.State.{unfinished, isEnd, next, rank}
-use Rattle.model.specs.Read.{Reading, reads, faulty, read}
+use Rattle.model.specs.Read.{read}
 use Rattle.model.specs.Plan.{planOf, planWords}
-use Rattle.model.specs.Answer.{Answer}
-use Rattle.model.specs.Analysis.{Analysed, analyseReading, analyseSet}
-use Rattle.model.specs.Broker.{Record, Served, stateIn, misplaced, bidByte, bidAnswer, bidReading, againSet, againReading}
-use Rattle.model.specs.Route.{Routed, stepsFrom, walked, routeFrom, routeSet, routeReading}
+use Rattle.model.specs.Record.{Record, misplaced, mapFits, placed}
+use Rattle.model.specs.Analysis.{planFits, withRoom, analyse}
+use Rattle.model.specs.Broker.{bidByte, bidAnswer, bid, againAnswer, again}
+use Rattle.model.specs.Route.{stepsFrom, walked, routeFrom, routeSteps, routeFits, route}
+use Rattle.model.proofs.Bools.{by-cases, true-not-false, or-true}
+use Rattle.model.proofs.Answers.{then-refused}
 use Rattle.model.proofs.ReadNumbers.{read-number}
 use Rattle.demands.specs.Refusals.{ofSet, ofAnalysis, ofBid, ofAgain, ofRoute, Only, Refusals}
 
--- a choice between two that keep to the list keeps to it
-only-cond : {A : Type 0} (listed : ℕ → Bool) (f : A → Answer) (b : Bool) (x y : A) → Only listed (f x) → Only listed (f y) → Only listed (f (cond b x y))
-only-cond listed f true x y h k = h
-only-cond listed f false x y h k = k
+-- a number that a list has
+abbrev has : ℕ → List ℕ → Bool
+has n [] = false
+has n (a ∷ l) = eqb n a || has n l
 
-module _ (n : ℕ) (h : (1 ≤ n) × (n ≤ 12)) where
-  set-listed : ofSet n ≡ true
-  set-listed = rw (le-leb 1 n (h .0), le-leb n 12 (h .1)) refl
+listed : (n : ℕ) (l : List ℕ) → has n l ≡ true → List·Memᴰ n l
+listed n [] e = true-not-false false e refl
+listed n (a ∷ l) e = by-cases (or-true (eqb n a) (has n l) e) (λ h. List·Memᴰ·head (eqb-true n a h)) (λ h. List·Memᴰ·tail (listed n l h))
 
-  analysis-listed : ofAnalysis n ≡ true
-  analysis-listed = let l : n ≤ 14 = omega (arith, h .1) in rw (le-leb 1 n (h .0), le-leb n 14 l) refl
+module _ {A : Type 0} (numbers : List ℕ) where
+  -- an answer keeps to the list exactly if each of its refusals is listed
+  only-intro : (a : Answer A) → ((n p : ℕ) → a ≡ refused n p → List·Memᴰ n numbers) → Only numbers a
+  unfolding Only
+  only-intro (given x) h = tt
+  only-intro (refused n p) h = h n p refl
 
-  -- a longer list that starts with the set's own numbers
-  also-listed : (b : Bool) → (ofSet n || b) ≡ true
-  also-listed b = rw set-listed refl
+  only-listed : (a : Answer A) → Only numbers a → (n p : ℕ) → a ≡ refused n p → List·Memᴰ n numbers
+  unfolding Only
+  only-listed a h n p e = rw e at h
 
--- what the reading's refusals are
-abbrev Numbered : Reading → Type 0
-Numbered a = (n p : ℕ) → a ≡ faulty n p → (1 ≤ n) × (n ≤ 12)
+  only-cond : (b : Bool) (x y : Answer A) → Only numbers x → Only numbers y → Only numbers (cond b x y)
+  only-cond true x y h k = h
+  only-cond false x y h k = k
 
-analysis-only : (map plan : List ℕ) (a : Reading) → Numbered a → Only ofAnalysis (analyseReading a map plan .answer)
-unfolding analyseReading analyseSet Only
-analysis-only map plan (faulty n p) h = analysis-listed n (h n p refl)
-analysis-only map plan (reads s) h =
-    let by = only-cond ofAnalysis (λ (x : Analysed). x .answer) in
-    by (ltb (length map) (size (lengthsOf s))) _ _ refl (by (ltb (length plan) (length (planWords (planOf s)))) _ _ refl tt)
+-- refusals first: what is first keeps to the list, and then what comes next
+only-then : {A B : Type 0} (numbers : List ℕ) (a : Answer A) (f : A → Answer B) → Only numbers a → ((x : A) → Only numbers (f x)) → Only numbers (a then f)
+only-then numbers a f h k =
+    only-intro numbers (a then f) λ n p e.
+    by-cases (then-refused f a n p .0 e) (only-listed numbers a h n p) (λ r. only-listed numbers (f (r .0)) (k (r .0)) n p (r .2))
+
+-- the reading's numbers are 1 to 12, which every list has
+read-listed : (more : List ℕ) (n : ℕ) → (1 ≤ n) × (n ≤ 12) → List·Memᴰ n (ofSet ++ more)
+read-listed more n h =
+    from 1 n _ (h .0) λ n₂. from 2 n _ n₂ λ n₃. from 3 n _ n₃ λ n₄. from 4 n _ n₄ λ n₅. from 5 n _ n₅ λ n₆. from 6 n _ n₆ λ n₇.
+    from 7 n _ n₇ λ n₈. from 8 n _ n₈ λ n₉. from 9 n _ n₉ λ n₁₀. from 10 n _ n₁₀ λ n₁₁. from 11 n _ n₁₁ λ n₁₂. from 12 n _ n₁₂ λ n₁₃.
+    absurd (omega (arith, h .1))
+  where
+    -- a number from a on is a or a later one
+    from : (a n : ℕ) (l : List ℕ) → a ≤ n → (a < n → List·Memᴰ n l) → List·Memᴰ n (a ∷ l)
+    from a n l h k = by-cases (eq-or-lt-of-le h) (λ e. List·Memᴰ·head (sym e)) (λ q. List·Memᴰ·tail (k q))
+
+read-only : (more words : List ℕ) → Only (ofSet ++ more) (read words)
+read-only more words = only-intro (ofSet ++ more) (read words) λ n p e. read-listed more n (read-number words n p e)
+
+-- the checks of several calls, by the lists that have their numbers
+module _ (numbers : List ℕ) where
+  fits-only : List·Memᴰ 13 numbers → (s : Set) (m : List ℕ) → Only numbers (mapFits s m)
+  unfolding mapFits Only
+  fits-only h s m = only-cond numbers (ltb (length m) (size (lengthsOf s))) _ _ h tt
+
+  placed-only : List·Memᴰ 16 numbers → (s : Set) (r : Record) → Only numbers (placed s r)
+  unfolding placed Only
+  placed-only h s r = only-cond numbers (misplaced s r) _ _ h tt
+
+analysis-only : (words map plan : List ℕ) → Only ofAnalysis (analyse words map plan .answer)
+unfolding planFits Only
+analysis-only words map plan =
+    only-then ofAnalysis (withRoom words map) _
+    (only-then ofAnalysis (read words) _ (read-only _ words) λ s.
+    only-then ofAnalysis (mapFits s map) _ (fits-only ofAnalysis (listed 13 ofAnalysis refl) s map) λ grid. tt) λ s.
+    only-then ofAnalysis (planFits s plan) _
+    (only-cond ofAnalysis (ltb (length plan) (length (planWords (planOf s)))) _ _ (listed 14 ofAnalysis refl) tt) λ ws. tt
 
 byte-only : (b r d : ℕ) → Only ofBid (bidByte b r d)
 unfolding bidByte Only
 byte-only b r d =
-    let by = only-cond ofBid (λ (x : Answer). x) in
-    by (ltb 3 b) _ _ refl (by (eqb b 1) _ _ tt (by (eqb b 2 || eqb b 3) _ _ tt tt))
+    let by = only-cond ofBid in
+    by (ltb 3 b) _ _ (listed 18 ofBid refl) (by (eqb b 1) _ _ tt (by (eqb b 2 || eqb b 3) _ _ tt tt))
 
-bid-only : (map : List ℕ) (r : Record) (t : ℕ) (a : Reading) → Numbered a → Only ofBid (bidReading a map r t .answer)
-unfolding bidReading bidAnswer Only
-bid-only map r t (faulty n p) h = also-listed n (h n p refl) _
-bid-only map r t (reads s) h =
-    let by = only-cond ofBid (λ (x : Answer). x) in
-    let x = stateIn s r in
-    by (ltb (length map) (size (lengthsOf s))) _ _ refl
-    (by (misplaced s r || not (eqb (at map (rank (lengthsOf s) x)) 0)) _ _ refl
-    (by (leb (length (s .tasks)) t) _ _ refl
+bid-only : (words map : List ℕ) (r : Record) (t : ℕ) → Only ofBid (bid words map r t .answer)
+unfolding bidAnswer Only
+bid-only words map r t =
+    let by = only-cond ofBid in
+    only-then ofBid (read words) _ (read-only _ words) λ s.
+    only-then ofBid (mapFits s map) _ (fits-only ofBid (listed 13 ofBid refl) s map) λ grid.
+    only-then ofBid (placed s r) _ (placed-only ofBid (listed 16 ofBid refl) s r) λ x.
+    by (not (eqb (at map (rank (lengthsOf s) x)) 0)) _ _ (listed 16 ofBid refl)
+    (by (leb (length (s .tasks)) t) _ _ (listed 17 ofBid refl)
     (by (not (unfinished (lengthsOf s) x t)) _ _ tt
-    (byte-only _ (rank (lengthsOf s) (next x t)) _))))
+    (byte-only _ (rank (lengthsOf s) (next x t)) _)))
 
-again-only : (r : Record) (a : Reading) → Numbered a → Only ofAgain (againReading a r .answer)
-unfolding againReading againSet Only
-again-only r (faulty n p) h = also-listed n (h n p refl) _
-again-only r (reads s) h =
-    let by = only-cond ofAgain (λ (x : Served). x .answer) in
-    by (misplaced s r) _ _ refl (by (not (isEnd (lengthsOf s) (stateIn s r))) _ _ refl tt)
+again-only : (words : List ℕ) (r : Record) → Only ofAgain (again words r .answer)
+unfolding againAnswer Only
+again-only words r =
+    only-then ofAgain (read words) _ (read-only _ words) λ s.
+    only-then ofAgain (placed s r) _ (placed-only ofAgain (listed 16 ofAgain refl) s r) λ x.
+    only-cond ofAgain (not (isEnd (lengthsOf s) x)) _ _ (listed 19 ofAgain refl) tt
 
-route-only : (map : List ℕ) (r : Record) (slice : List ℕ) (a : Reading) → Numbered a → Only ofRoute (routeReading a map r slice .answer)
-unfolding routeReading routeSet routeFrom Only
-route-only map r slice (faulty n p) h = also-listed n (h n p refl) _
-route-only map r slice (reads s) h =
-    let by = only-cond ofRoute (λ (x : Routed). x .answer) in
-    let ls = lengthsOf s in
-    let x = stateIn s r in
-    let ts = stepsFrom ls map x in
-    let b = at map (rank ls x) in
-    by (ltb (length map) (size ls)) _ _ refl
-    (by (misplaced s r || eqb b 1) _ _ refl
-    (by (ltb 3 b) _ _ refl
-    (by (not (eqb b 0)) _ _ refl
-    (by (not (isEnd ls (walked x ts))) _ _ refl
-    (by (ltb (length slice) (length ts)) _ _ refl tt)))))
+route-only : (words map : List ℕ) (r : Record) (slice : List ℕ) → Only ofRoute (route words map r slice .answer)
+unfolding routeSteps routeFrom routeFits Only
+route-only words map r slice =
+    let by = only-cond ofRoute in
+    let is : (n : ℕ) → has n ofRoute ≡ true → List·Memᴰ n ofRoute = λ n. listed n ofRoute in
+    only-then ofRoute (read words then λ s. routeSteps s map r then λ ts. routeFits slice ts) _
+    (only-then ofRoute (read words) _ (read-only _ words) λ s.
+    only-then ofRoute (routeSteps s map r) _
+    (only-then ofRoute (mapFits s map) _ (fits-only ofRoute (is 13 refl) s map) λ grid.
+    only-then ofRoute (placed s r) _ (placed-only ofRoute (is 16 refl) s r) λ x.
+    let b = at map (rank (lengthsOf s) x) in
+    by (eqb b 1) _ _ (is 16 refl)
+    (by (ltb 3 b) _ _ (is 18 refl)
+    (by (not (eqb b 0)) _ _ (is 20 refl)
+    (by (not (isEnd (lengthsOf s) (walked x (stepsFrom (lengthsOf s) map x)))) _ _ (is 18 refl) tt)))) λ ts.
+    by (ltb (length slice) (length ts)) _ _ (is 21 refl) tt) λ ts. tt
 
 pub refusals : Refusals
 refusals = record {
-  reads = λ words n p e. set-listed n (read-number words n p e);
-  analyses = λ words map plan. analysis-only map plan (read words) (read-number words);
-  bids = λ words map r t. bid-only map r t (read words) (read-number words);
-  agains = λ words r. again-only r (read words) (read-number words);
-  routes = λ words map r slice. route-only map r slice (read words) (read-number words);
+  reads = read-only [];
+  analyses = analysis-only;
+  bids = bid-only;
+  agains = again-only;
+  routes = route-only;
 }

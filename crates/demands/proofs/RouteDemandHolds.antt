@@ -7,17 +7,18 @@ use mathlib.Core.List.{List, [], _∷_}
 use lib.ListN.{length}
 use lib.Dec.{eqb, ltb}
 use borrow.Author.Tests.{lt-ltb, ltb-true, ltb-false, eqb-true, eqb-false}
+use Rattle.model.specs.Answer.{given, refused}
 use Rattle.model.specs.Set.{Set, lengthsOf, at, size}
 use Rattle.model.specs.State.{State, InGrid, next, sum, rank}
-use Rattle.model.specs.Read.{reads, read}
-use Rattle.model.specs.Answer.{refused}
+use Rattle.model.specs.Read.{read}
 use Rattle.model.specs.Analysis.{analyse}
-use Rattle.model.specs.Broker.{Record, stateIn}
+use Rattle.model.specs.Record.{Record, stateIn}
 use Rattle.model.specs.Route.{Routed, route}
-use Rattle.model.proofs.Tests.{by-test}
+use Rattle.model.proofs.Bools.{by-bool}
 use Rattle.model.proofs.States.{unfinished-task, next-grid}
 use Rattle.model.proofs.Sums.{sum-next}
-use Rattle.model.proofs.Records.{Carries, map-length, over-carries}
+use Rattle.model.proofs.DeadRanks.{map-length}
+use Rattle.model.proofs.Records.{Carries, over-carries}
 use Rattle.demands.specs.MapDemand.{Leads, IsOpen, IsUnsafe, Bytes}
 use Rattle.demands.specs.Calls.{Misplaced, noRoute, byteOf, Walk, stops, goes, Walks, OfRoute}
 use Rattle.demands.specs.RouteDemand.{actionsLeft, Arrives, RouteRight, RouteDemand}
@@ -58,7 +59,7 @@ module _ (s : Set) (m : List ℕ) (lent : Carries s m) where
         count = omega (arith, r .count);
       }
 
-module _ (words m : List ℕ) (s : Set) (is-read : read words ≡ reads s) (lent : Carries s m) (r : Record) (full : length (r .positions) ≡ 8)
+module _ (words m : List ℕ) (s : Set) (is-read : read words ≡ given s) (lent : Carries s m) (r : Record) (full : length (r .positions) ≡ 8)
     (placed : Misplaced s r → ⊥) (slice : List ℕ) where
   abbrev x : State
   x = stateIn s r
@@ -84,7 +85,7 @@ module _ (words m : List ℕ) (s : Set) (is-read : read words ≡ reads s) (lent
 
     not-20 : (p : ℕ) → route words m r slice .answer ≡ refused 20 p → ⊥
     not-20 p q =
-        by-test (ltb (length slice) (length (walks .steps)))
+        by-bool (ltb (length slice) (length (walks .steps)))
         (λ h.
         let e = ap (λ (v : Routed). v .answer) (walks .short (ends .last) (ltb-true (length slice) (length (walks .steps)) h)) in
         let z : _≡_ {A = ℕ} 20 21 = cc in
@@ -103,15 +104,15 @@ module _ (words m : List ℕ) (s : Set) (is-read : read words ≡ reads s) (lent
 
   only-unsafe : (p : ℕ) → route words m r slice .answer ≡ refused 20 p → IsUnsafe s x × (p ≡ rank (lengthsOf s) x)
   only-unsafe p q =
-      by-test (eqb b 0) (λ e. absurd (not-20 (says s m lent .open-state x own-grid .0 (eqb-true b 0 e)) p q)) λ n₀.
-      by-test (eqb b 1)
+      by-bool (eqb b 0) (λ e. absurd (not-20 (says s m lent .open-state x own-grid .0 (eqb-true b 0 e)) p q)) λ n₀.
+      by-bool (eqb b 1)
       (λ e.
       let f = ap (λ (v : Routed). v .answer) (of .bad-record room (inr (eqb-true b 1 e))) in
       let z : _≡_ {A = ℕ} 16 20 = cc in
       absurd (omega arith)) λ n₁.
       let small = says s m lent .no-other x own-grid in
       let two : (b ≡ 2) ⊎ (b ≡ 3) =
-      by-test (eqb b 2) (λ e. inl (eqb-true b 2 e)) (λ n₂. inr (omega (arith, eqb-false b 0 n₀, eqb-false b 1 n₁, eqb-false b 2 n₂))) in
+      by-bool (eqb b 2) (λ e. inl (eqb-true b 2 e)) (λ n₂. inr (omega (arith, eqb-false b 0 n₀, eqb-false b 1 n₁, eqb-false b 2 n₂))) in
       let f = ap (λ (v : Routed). v .answer) (unsafe-route two) in
       (byte-unsafe s m (says s m lent) x own-grid two, (cc))
 

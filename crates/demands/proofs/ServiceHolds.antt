@@ -7,17 +7,19 @@ use mathlib.Core.List.{List}
 use lib.ListN.{length}
 use lib.Dec.{eqb, ltb}
 use borrow.Author.Tests.{ltb-true, ltb-false, lt-ltb, eqb-true, eqb-false}
+use Rattle.model.specs.Answer.{given, refused}
 use Rattle.model.specs.Set.{claim, release, Set, lengthsOf, taskAt, actionAt, at}
 use Rattle.model.specs.Layout.{WellFormed}
 use Rattle.model.specs.State.{State, InGrid, next, isEnd, rank}
-use Rattle.model.specs.Read.{reads, read}
-use Rattle.model.specs.Answer.{granted, finished, busy, held, refused}
+use Rattle.model.specs.Read.{read}
 use Rattle.model.specs.Analysis.{analyse}
-use Rattle.model.specs.Broker.{Record, Served, fresh, grant, stateIn, misplaced, bid, again, serve, afterCalls}
-use Rattle.model.proofs.Tests.{by-test, by-cases, true-not-false}
+use Rattle.model.specs.Record.{Record, fresh, stateIn, misplaced}
+use Rattle.model.specs.Broker.{granted, finished, busy, held, Served, grant, bid, again, afterCalls, Bid, Again}
+use Rattle.model.proofs.Bools.{by-bool, by-cases, true-not-false}
 use Rattle.model.proofs.States.{next-grid}
-use Rattle.model.proofs.Records.{Carries, map-length, over-carries, Sound, not-misplaced, own-byte}
-use Rattle.model.proofs.BrokerRecord.{bid-refused, fresh-sound}
+use Rattle.model.proofs.DeadRanks.{map-length}
+use Rattle.model.proofs.Records.{Carries, over-carries, InService, not-misplaced, own-byte}
+use Rattle.model.proofs.BrokerRecord.{bid-refused, calls-serve}
 use Rattle.model.proofs.ReleaseOpen.{release-open}
 use Rattle.model.proofs.ReadExact.{read-sound}
 use Rattle.demands.specs.MapDemand.{IsOpen, IsUnsafe, Bytes}
@@ -37,7 +39,7 @@ release-opens s w x g o t d l a =
     let n = next-grid (lengthsOf s) x g t u in
     open-both s (next x t) n .0 (release-open s w t d x g u a (open-both s x g .1 o))
 
-module _ (words m : List ℕ) (s : Set) (is-read : read words ≡ reads s) (lent : Carries s m) (r : Record) (i : Sound s r) where
+module _ (words m : List ℕ) (s : Set) (is-read : read words ≡ given s) (lent : Carries s m) (r : Record) (i : InService s r) where
   abbrev ls : List ℕ
   ls = lengthsOf s
 
@@ -63,24 +65,24 @@ module _ (words m : List ℕ) (s : Set) (is-read : read words ≡ reads s) (lent
   grid-next : (t : ℕ) → at x t < length (taskAt s t) → InGrid ls (next x t)
   grid-next t l = next-grid ls x (i .good .grid) t (lt-ltb (at x t) (at ls t) (omega (arith, length-at s t)))
 
-  to-open : (t : ℕ) → at x t < length (taskAt s t) → IsOpen s (next x t) → bid words m r t ≡ record { answer = granted; after = grant r t }
+  to-open : (t : ℕ) → at x t < length (taskAt s t) → IsOpen s (next x t) → bid words m r t ≡ record { answer = given granted; after = grant r t }
   to-open t l o = cases t .is-granted ready l (says .open-state (next x t) (grid-next t l) .1 o)
 
-  to-unsafe : (t : ℕ) → at x t < length (taskAt s t) → IsUnsafe s (next x t) → bid words m r t ≡ unchanged (held (rank ls (next x t))) r
+  to-unsafe : (t : ℕ) → at x t < length (taskAt s t) → IsUnsafe s (next x t) → bid words m r t ≡ unchanged (given (held (rank ls (next x t)))) r
   to-unsafe t l u = cases t .is-held ready l (unsafe-byte s m says (next x t) (grid-next t l) u)
 
-  release-goes : (t d : ℕ) → at x t < length (taskAt s t) → actionAt s t (at x t) ≡ release d → bid words m r t ≡ record { answer = granted; after = grant r t }
+  release-goes : (t d : ℕ) → at x t < length (taskAt s t) → actionAt s t (at x t) ≡ release d → bid words m r t ≡ record { answer = given granted; after = grant r t }
   release-goes t d l a =
       to-open t l (release-opens s well-formed x (i .good .grid) (open-both s x (i .good .grid) .0 (i .good .is-open)) t d l a)
 
   -- a bid by its answer: refused or Finished, Granted, or one that answers a claim
   module _ (t : ℕ) {G : Type 0} where
-    by-answer : ((n p : ℕ) → bid words m r t .answer ≡ refused n p → G) → (bid words m r t .answer ≡ finished → G) → (bid words m r t .answer ≡ granted → G)
+    by-answer : ((n p : ℕ) → bid words m r t .answer ≡ refused n p → G) → (bid words m r t .answer ≡ given finished → G) → (bid words m r t .answer ≡ given granted → G)
         → ((d : ℕ) → at x t < length (taskAt s t) → actionAt s t (at x t) ≡ claim d
-        → (bid words m r t .answer ≡ busy d) ⊎ (bid words m r t .answer ≡ held (rank ls (next x t))) → G) → G
+        → (bid words m r t .answer ≡ given (busy d)) ⊎ (bid words m r t .answer ≡ given (held (rank ls (next x t)))) → G) → G
     by-answer refuses done goes claims =
-        by-test (ltb t (length (s .tasks)))
-        (λ h. by-test (ltb (at x t) (length (taskAt s t)))
+        by-bool (ltb t (length (s .tasks)))
+        (λ h. by-bool (ltb (at x t) (length (taskAt s t)))
         (λ k.
         let l = ltb-true (at x t) (length (taskAt s t)) k in
         by-action (actionAt s t (at x t))
@@ -89,32 +91,32 @@ module _ (words m : List ℕ) (s : Set) (is-read : read words ≡ reads s) (lent
         (λ k. done (answer-of (cases t .is-finished ready (ltb-true t (length (s .tasks)) h) (ltb-false (at x t) (length (taskAt s t)) k)))))
         (λ h. refuses 17 t (answer-of (cases t .no-task ready (ltb-false t (length (s .tasks)) h))))
       where
-        answer-of : {a b : Served} → a ≡ b → a .answer ≡ b .answer
-        answer-of e = ap (λ (v : Served). v .answer) e
+        answer-of : {a b : Served Bid} → a ≡ b → a .answer ≡ b .answer
+        answer-of e = ap (λ (v : Served Bid). v .answer) e
 
         on-claim : (d : ℕ) → at x t < length (taskAt s t) → actionAt s t (at x t) ≡ claim d → G
         on-claim d l a =
             let b = byteOf s m (next x t) in
-            by-test (eqb b 0) (λ e. goes (answer-of (cases t .is-granted ready l (eqb-true b 0 e)))) λ n₀.
-            by-test (eqb b 1) (λ e. claims d l a (inl (answer-of (cases t .is-busy ready l (eqb-true b 1 e) d (inl a))))) λ n₁.
+            by-bool (eqb b 0) (λ e. goes (answer-of (cases t .is-granted ready l (eqb-true b 0 e)))) λ n₀.
+            by-bool (eqb b 1) (λ e. claims d l a (inl (answer-of (cases t .is-busy ready l (eqb-true b 1 e) d (inl a))))) λ n₁.
             claims d l a (inr (answer-of (cases t .is-held ready l
-            (by-test (eqb b 2) (λ e. inl (eqb-true b 2 e)) λ n₂.
+            (by-bool (eqb b 2) (λ e. inl (eqb-true b 2 e)) λ n₂.
             inr (omega (arith, says .no-other (next x t) (grid-next t l), eqb-false b 0 n₀, eqb-false b 1 n₁, eqb-false b 2 n₂))))))
 
   only-19 : (n p : ℕ) → again words r .answer ≡ refused n p → (n ≡ 19) × (p ≡ rank ls x)
   only-19 n p e =
       let of = of-again words s is-read r (i .eight) in
-      by-test (isEnd ls x)
+      by-bool (isEnd ls x)
       (λ k.
-      let q = ap (λ (v : Served). v .answer) (of .at-end (of-states ls .end x (i .good .grid) .0 k) (ready .1)) in
+      let q = ap (λ (v : Served Again). v .answer) (of .at-end (of-states ls .end x (i .good .grid) .0 k) (ready .1)) in
       let z : _≡_ {A = ℕ} 0 1 = cc in
       absurd (omega arith))
       (λ k.
       let away : x ≡ ls → ⊥ = λ y. true-not-false (isEnd ls x) (of-states ls .end x (i .good .grid) .1 y) k in
-      let q = ap (λ (v : Served). v .answer) (of .not-ended (ready .1) away) in
+      let q = ap (λ (v : Served Again). v .answer) (of .not-ended (ready .1) away) in
       ((cc), (cc)))
 
-  busy-claim : (t d : ℕ) → bid words m r t .answer ≡ busy d → (at x t < length (taskAt s t)) × (actionAt s t (at x t) ≡ claim d)
+  busy-claim : (t d : ℕ) → bid words m r t .answer ≡ given (busy d) → (at x t < length (taskAt s t)) × (actionAt s t (at x t) ≡ claim d)
   busy-claim t d e =
       by-answer t
       (λ n p q. let z : _≡_ {A = ℕ} 0 1 = cc in absurd (omega arith))
@@ -124,7 +126,7 @@ module _ (words m : List ℕ) (s : Set) (is-read : read words ≡ reads s) (lent
       (λ q. let same : c ≡ d = cc in (l, a ∙ ap claim same))
       (λ q. let z : _≡_ {A = ℕ} 0 1 = cc in absurd (omega arith)))
 
-  held-claim : (t p : ℕ) → bid words m r t .answer ≡ held p
+  held-claim : (t p : ℕ) → bid words m r t .answer ≡ given (held p)
       → (at x t < length (taskAt s t)) × (p ≡ rank ls (next x t)) × ((d : ℕ) × (actionAt s t (at x t) ≡ claim d))
   held-claim t p e =
       by-answer t
@@ -136,7 +138,6 @@ module _ (words m : List ℕ) (s : Set) (is-read : read words ≡ reads s) (lent
       (λ q. (l, (cc), (c, a))))
 
   of-service : OfService words m s r
-  unfolding serve
   of-service = record {
     eight = i .eight;
     absent = i .absent;
@@ -157,5 +158,5 @@ service-holds = record {
   service = λ words map plan s e h cs.
       let m = analyse words map plan .map in
       let lent : Carries s m = rw (map-left words map plan s e h) (over-carries s map) in
-      of-service words m s e lent (afterCalls words m fresh cs) (fresh-sound words m s (read-sound words s e .1) e lent cs);
+      of-service words m s e lent (afterCalls words m fresh cs) (calls-serve words m s (read-sound words s e .1) e lent cs);
 }

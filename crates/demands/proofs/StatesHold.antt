@@ -12,11 +12,10 @@ use lib.Dec.{eqb, ltb}
 use borrow.Author.Tests.{ltb-true, ltb-false, lt-ltb, eqb-true, eqb-false}
 use Rattle.model.specs.Set.{Task, lengths, at, size}
 use Rattle.model.specs.State.{State, InGrid, unfinished, start, isEnd, sum, rank}
-use Rattle.model.proofs.Tests.{by-test, true-not-false}
-use Rattle.model.proofs.States.{end-finished, end-intro, at-next-same, at-next-other}
+use Rattle.model.proofs.Bools.{by-bool, true-not-false}
+use Rattle.model.proofs.States.{end-finished, end-intro, at-next-same, at-next-other, start-grid}
 use Rattle.model.proofs.Ranks.{rank-lt, rank-stateAt, stateAt-grid, tail-grid}
 use Rattle.model.proofs.Sums.{sum-next}
-use Rattle.model.proofs.BrokerOpen.{start-grid}
 use Rattle.demands.specs.Terms.{before}
 use Rattle.demands.specs.States.{OfStates, StatesRight}
 
@@ -30,9 +29,9 @@ before-rank ls [] y g h e = true-not-false false e refl
 before-rank ls (p ∷ x) [] g h e = true-not-false false e refl
 before-rank [] (p ∷ x) (q ∷ y) g h e = absurd (omega (arith, g .count))
 before-rank (l ∷ ls) (p ∷ x) (q ∷ y) g h e =
-    by-test (ltb p q)
+    by-bool (ltb p q)
     (λ a. outweighs p q (size ls) (rank ls x) (rank ls y) (ltb-true p q a) (rank-lt ls x (tail-grid g)))
-    (λ a. by-test (eqb p q)
+    (λ a. by-bool (eqb p q)
     (λ b. let i = before-rank ls x y (tail-grid g) (tail-grid h) (rw (a, b) at e) in rw (eqb-true p q b) (omega arith))
     (λ b. true-not-false false (rw (a, b) at e) refl))
 
@@ -42,8 +41,8 @@ rank-before [] x y g h l = absurd (omega arith)
 rank-before (l ∷ ls) [] y g h k = absurd (omega (arith, g .count))
 rank-before (l ∷ ls) (p ∷ x) [] g h k = absurd (omega (arith, h .count))
 rank-before (l ∷ ls) (p ∷ x) (q ∷ y) g h k =
-    by-test (ltb p q) (λ a. rw a) λ a.
-    by-test (eqb p q)
+    by-bool (ltb p q) (λ a. rw a) λ a.
+    by-bool (eqb p q)
     (λ b. let e = eqb-true p q b in rw (a, b) (rank-before ls x y (tail-grid g) (tail-grid h) (omega (arith, ap (λ n. n * size ls) e))))
     (λ b. absurd (omega (
       arith,
@@ -54,7 +53,7 @@ rank-before (l ∷ ls) (p ∷ x) (q ∷ y) g h k =
 end-lengths : (ls : List ℕ) (x : State) → InGrid ls x → isEnd ls x ≡ true → x ≡ ls
 end-lengths ls x g e =
     ext-getD 0 x ls (g .count) λ t h.
-    by-test (unfinished ls x t) (λ u. absurd (end-finished ls x e t u)) (λ u. omega (arith, ltb-false (at x t) (at ls t) u, g .fits t))
+    by-bool (unfinished ls x t) (λ u. absurd (end-finished ls x e t u)) (λ u. omega (arith, ltb-false (at x t) (at ls t) u, g .fits t))
 
 lengths-end : (ls : List ℕ) → isEnd ls ls ≡ true
 lengths-end ls = end-intro ls ls (λ t u. omega (arith, ltb-true (at ls t) (at ls t) u))

@@ -12,7 +12,7 @@ use lib.Dec.{eqb}
 use borrow.Author.Tests.{eqb-true, eq-eqb, ne-eqb, not-true, eqb-false}
 use Rattle.model.specs.Set.{Action, claim, release, Task}
 use Rattle.model.specs.Read.{heldAfter}
-use Rattle.model.proofs.Tests.{by-cases, true-not-false, and-true, or-true, or-right}
+use Rattle.model.proofs.Bools.{by-cases, true-not-false, and-true, or-true, or-right}
 use Rattle.model.proofs.Held.{held-append}
 use Rattle.demands.specs.Terms.{StillHeld}
 

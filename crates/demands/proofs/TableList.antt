@@ -10,7 +10,7 @@ use lib.Dec.{leb}
 use borrow.Author.Tests.{leb-true}
 use Rattle.model.specs.Forbidden.{TaskSet, choose}
 use Rattle.model.specs.TaskTable.{maskOf, masksFrom, table}
-use Rattle.model.proofs.Tests.{by-cases, and-true}
+use Rattle.model.proofs.Bools.{by-cases, and-true}
 use Rattle.demands.specs.Terms.{Ordered}
 use Rattle.demands.specs.ForbiddenRule.{bitsFrom, tasksOf, Smaller}
 use Rattle.demands.proofs.Orders.{ordered-append, ordered-map, ordered-weaken}

@@ -6,7 +6,7 @@ use mathlib.Core.Bool.{true, false}
 use mathlib.Core.List.{List, [], _∷_, map, List·Memᴰ, List·Memᴰ·head, List·Memᴰ·not-nil, List·Memᴰ·append-cases, List·Memᴰ·eq-of-singleton, Memᴰ·append-left, Memᴰ·append-right, Memᴰ·map, Memᴰ·of-map}
 use lib.ListN.{length}
 use Rattle.model.specs.Forbidden.{TaskSet, choose}
-use Rattle.model.proofs.Tests.{by-cases}
+use Rattle.model.proofs.Bools.{by-cases}
 use Rattle.demands.specs.Terms.{before, Ordered}
 use Rattle.demands.proofs.Orders.{ordered-append, ordered-map, before-lower, before-same}
 

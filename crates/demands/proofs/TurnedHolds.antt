@@ -10,8 +10,9 @@ use lib.Seq.{take-length, drop-length, drop-cons}
 use borrow.Author.Tests.{lt-ltb, le-ltb, ne-eqb}
 use Rattle.model.specs.Set.{Set, lengthsOf, size}
 use Rattle.model.specs.Layout.{encode}
-use Rattle.model.specs.Read.{Scan, nothingRead, note, fault, Reading, reads, faulty, close, readFrom, read}
-use Rattle.model.proofs.Tests.{by-cases}
+use Rattle.model.specs.Answer.{given, refused}
+use Rattle.model.specs.Read.{Scan, nothingRead, note, fault, Reading, close, readFrom, read}
+use Rattle.model.proofs.Bools.{by-cases}
 use Rattle.model.proofs.Faults.{fault-passes}
 use Rattle.demands.specs.Turned.{kind, field, Came, Brings, after-end, Clean, FirstFault, Turned}
 use Rattle.demands.proofs.ReadSoFar.{Tracks, going, done, nothing, tracks-on}
@@ -54,7 +55,7 @@ module _ (ws : List ℕ) where
     rest : readFrom nothingRead 0 ws ≡ readFrom scan i (drop i ws)
 
   -- the word at i, first of those left
-  read-at : (i : ℕ) (s : Scan) (n : ℕ) → i < length ws → faultAt s i ≡ n → 0 < n → readFrom s i (drop i ws) ≡ faulty n i
+  read-at : (i : ℕ) (s : Scan) (n : ℕ) → i < length ws → faultAt s i ≡ n → 0 < n → readFrom s i (drop i ws) ≡ refused n i
   unfolding readFrom
   read-at i s n l e some = rw (drop-cons ws i 0 l, e, lt-ltb 0 n some)
 
@@ -80,11 +81,11 @@ module _ (ws : List ℕ) where
   unfolding read
   from-first some few = rw (ne-eqb (length ws) 0 (λ z. omega arith), le-ltb 4096 (length ws) few)
 
-  over : 4096 < length ws → read ws ≡ faulty 2 4096
+  over : 4096 < length ws → read ws ≡ refused 2 4096
   unfolding read
   over l = rw (ne-eqb (length ws) 0 (λ z. omega arith), lt-ltb 4096 (length ws) l)
 
-  first-fault : (i n : ℕ) → length ws ≤ 4096 → FirstFault ws i n → read ws ≡ faulty n i
+  first-fault : (i n : ℕ) → length ws ≤ 4096 → FirstFault ws i n → read ws ≡ refused n i
   first-fault i n few f =
       let r = read-to i (omega (arith, f .listed)) (f .clean-before) in
       let e = lowest i (r .scan) n (r .tracks) (f .brings) (f .lowest) in
@@ -120,7 +121,7 @@ module _ (ws : List ℕ) where
   unfolding readFrom
   read-all some few r = from-first some few ∙ r .rest ∙ rw (drop-length ws)
 
-  unended : (s : Scan) → Tracks ws (length ws) s → (Came ws (length ws) 5 → ⊥) → close s (length ws) ≡ faulty 11 (length ws)
+  unended : (s : Scan) → Tracks ws (length ws) s → (Came ws (length ws) 5 → ⊥) → close s (length ws) ≡ refused 11 (length ws)
   unfolding close
   unended s (going cs ts g) n = refl
   unended s (done r c w) n = absurd (n c)
@@ -128,7 +129,7 @@ module _ (ws : List ℕ) where
   -- the set that all words declare: accepted, or its grid is too large
   abbrev Answered : Reading → Type 0
   Answered a =
-      (s : Set) × (ws ≡ encode s) × (size (lengthsOf s) ≤ 65536 → a ≡ reads s) × (65536 < size (lengthsOf s) → a ≡ faulty 12 (length ws - 1))
+      (s : Set) × (ws ≡ encode s) × (size (lengthsOf s) ≤ 65536 → a ≡ given s) × (65536 < size (lengthsOf s) → a ≡ refused 12 (length ws - 1))
 
   ended : (s : Scan) → Tracks ws (length ws) s → Came ws (length ws) 5 → Answered (close s (length ws))
   unfolding close

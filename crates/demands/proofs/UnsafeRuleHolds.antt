@@ -8,13 +8,13 @@ use mathlib.Core.List.{List, [], _∷_, _++_}
 use lib.ListN.{length}
 use lib.Dec.{eqb, leb}
 use borrow.Author.Tests.{ltb-true, lt-ltb, leb-true, leb-false, eqb-false}
-use Rattle.model.specs.Test.{maximum}
+use Rattle.model.specs.Below.{maximum}
 use Rattle.model.specs.Set.{lengthsOf, at, size}
 use Rattle.model.specs.State.{State, InGrid, next, unfinished, isEnd, stateAt}
 use Rattle.model.specs.Box.{Box, side, inside, covered, firstBox}
 use Rattle.model.specs.Forbidden.{forbiddenBoxes}
 use Rattle.model.specs.UnsafeBoxes.{getsBox, blockerLow, unsafeBox, lastUnsafe, unsafeBoxes}
-use Rattle.model.proofs.Tests.{by-test, by-cases, true-not-false, or-true, or-right}
+use Rattle.model.proofs.Bools.{by-bool, by-cases, true-not-false, or-true, or-right}
 use Rattle.model.proofs.States.{unfinished-task}
 use Rattle.model.proofs.Ranks.{stateAt-grid}
 use Rattle.model.proofs.Boxes.{inside-count, inside-bounds, inside-intro}
@@ -41,7 +41,7 @@ first-is : (bs : List Box) (x : State) → covered bs x ≡ true → IsFirst bs 
 unfolding covered firstBox
 first-is [] x e = true-not-false false e refl
 first-is (b ∷ bs) x e =
-    by-test (inside b x)
+    by-bool (inside b x)
     (λ h. rw h (record { place = 0; listed = omega arith; is-box = refl; holds = h; none-before = λ i l. absurd (omega arith) }))
     (λ h. rw h (after (first-is bs x (rw h at e)) h))
   where
@@ -63,7 +63,7 @@ attained : (n : ℕ) (f : ℕ → ℕ) → (maximum n f ≡ 0) ⊎ ((t : ℕ) ×
 unfolding maximum
 attained zero f = inl refl
 attained (suc n) f =
-    by-test (leb (maximum n f) (f n))
+    by-bool (leb (maximum n f) (f n))
     (λ e. inr (n, omega arith, omega (arith, leb-true (maximum n f) (f n) e)))
     (λ e.
     let l = leb-false (maximum n f) (f n) e in
@@ -94,8 +94,8 @@ module _ (ls : List ℕ) (bs : List Box) (x : State) (g : InGrid ls x) where
       rw (box-side ls bs x j h)
       (by-cases (attained (length ls) (blockerLow ls bs x j)) inl λ r.
       let t = r .0 in
-      by-test (unfinished ls x t)
-      (λ u. by-test (eqb t j)
+      by-bool (unfinished ls x t)
+      (λ u. by-bool (eqb t j)
       (λ q. inl (r .2 ∙ rw (u, q)))
       (λ q. inr (t, eqb-false t j q, ltb-true (at x t) (at ls t) u, r .2 ∙ sym (blocker-low ls bs x t j u (eqb-false t j q)))))
       (λ u. inl (r .2 ∙ rw u)))
@@ -121,7 +121,7 @@ module _ (ls : List ℕ) (fs : List Box) where
       let earlier = last-made k (suc r) (omega arith) in
       let g = stateAt-grid ls r (omega arith) in
       rw q
-      (by-test (getsBox ls (fs ++ us) (stateAt ls r))
+      (by-bool (getsBox ls (fs ++ us) (stateAt ls r))
       (λ b. rw b (boxed earlier (gets ls (fs ++ us) (stateAt ls r) g b) (is-box ls (fs ++ us) (stateAt ls r) g)))
       (λ b. rw b (passed earlier (gets-not ls (fs ++ us) (stateAt ls r) g b))))
 

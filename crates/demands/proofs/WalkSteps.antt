@@ -10,7 +10,7 @@ use borrow.Author.Tests.{ltb-true, ltb-false, lt-ltb, eqb-true}
 use Rattle.model.specs.Set.{Set, lengthsOf, at}
 use Rattle.model.specs.State.{State, InGrid, next, unfinished, sum}
 use Rattle.model.specs.Route.{firstStep, walk, walked}
-use Rattle.model.proofs.Tests.{by-test, true-not-false, and-true}
+use Rattle.model.proofs.Bools.{by-bool, true-not-false, and-true}
 use Rattle.model.proofs.States.{unfinished-task, next-grid}
 use Rattle.model.proofs.Sums.{sum-next, sum-lt}
 use Rattle.model.proofs.Moves.{moves}
@@ -31,7 +31,7 @@ module _ (s : Set) (m : List ℕ) where
   walk-is zero y g h = stops {y = y} λ t l b. let n = sum-lt ls y g t l in omega arith
   walk-is (suc k) y g h =
       let t = firstStep ls m y in
-      by-test (ltb t (length ls))
+      by-bool (ltb t (length ls))
       (λ e.
       let o = step-lands ls m y (length ls) 0 (omega (arith, ltb-true t (length ls) e)) in
       let q = and-true (unfinished ls y t) (eqb (byteOf s m (next y t)) 0) o in

@@ -10,7 +10,7 @@ use lib.Dec.{eqb, ltb, leb}
 use borrow.Author.Tests.{ltb-true, ltb-false, leb-true, leb-false, eqb-true, eqb-false, eq-eqb, not-true, not-false}
 use Rattle.model.specs.Set.{Task}
 use Rattle.model.specs.Read.{lastTask, heldAfter, holdsSome, outOfOrder, fieldAllowed, tooMany, fault}
-use Rattle.model.proofs.Tests.{by-test, true-not-false, and-false, any-true, any-intro}
+use Rattle.model.proofs.Bools.{by-bool, true-not-false, and-false, any-true, any-intro}
 use Rattle.model.proofs.Faults.{scanOf}
 use Rattle.demands.specs.Turned.{kind, field, Came, Holds, Full, IsAction, Brings, no-kind, late-device, early, bad-capacity, task-field, undeclared, end-field, device-17, task-9, action-256, claims-held, releases-free, holds-on}
 use Rattle.demands.proofs.WordsBefore.{by-five, some-passes, passes-some}
@@ -18,7 +18,7 @@ use Rattle.demands.proofs.ReadSoFar.{Going}
 
 -- a number that is not 1 to b
 outside : (b k : ℕ) → (leb 1 k && leb k b) ≡ false → (k ≡ 0) ⊎ (b < k)
-outside b k e = by-test (leb 1 k) (λ t. inr (leb-false k b (and-false (leb 1 k) (leb k b) e t))) (λ t. inl (omega (arith, leb-false 1 k t)))
+outside b k e = by-bool (leb 1 k) (λ t. inr (leb-false k b (and-false (leb 1 k) (leb k b) e t))) (λ t. inl (omega (arith, leb-false 1 k t)))
 
 module _ (ws : List ℕ) (i : ℕ) (cs : List ℕ) (ts : List Task) (g : Going ws i cs ts) where
   -- ---- what the noted set tells of the words
@@ -32,7 +32,7 @@ module _ (ws : List ℕ) (i : ℕ) (cs : List ℕ) (ts : List Task) (g : Going w
   no-task e c = omega (arith, eqb-true (length ts) 0 e, some-task c)
 
   pub none-yet : (Came ws i 2 → ⊥) → eqb (length ts) 0 ≡ true
-  none-yet n = by-test (eqb (length ts) 0) (λ e. e) (λ e. absurd (n (came-task (omega (arith, eqb-false (length ts) 0 e)))))
+  none-yet n = by-bool (eqb (length ts) 0) (λ e. e) (λ e. absurd (n (came-task (omega (arith, eqb-false (length ts) 0 e)))))
 
   full : 0 < length ts → 255 ≤ length (lastTask ts) → Full ws i
   full some l = let o = g .opened some in (o .0, omega (arith, o .1), o .2, o .3)
@@ -112,7 +112,7 @@ module _ (ws : List ℕ) (i : ℕ) (cs : List ℕ) (ts : List Task) (g : Going w
   going-brings m e =
       let k = kind ws i in
       let f = field ws i in
-      by-test (not (leb 1 k && leb k 5)) (λ t. kind-brings m f refl k refl t e) λ t.
+      by-bool (not (leb 1 k && leb k 5)) (λ t. kind-brings m f refl k refl t e) λ t.
       by-five k (not-false _ t)
       (λ z. device-brings m f refl z (rw z at e))
       (λ z. task-brings m f refl z (rw z at e))

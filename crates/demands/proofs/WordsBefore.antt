@@ -8,7 +8,7 @@ use mathlib.Core.Bool.{Bool, true, false, _&&_}
 use mathlib.Core.List.{List}
 use lib.Dec.{eqb, leb}
 use borrow.Author.Tests.{leb-true, eqb-true, eqb-false}
-use Rattle.model.proofs.Tests.{by-test, by-cases, true-not-false, and-true}
+use Rattle.model.proofs.Bools.{by-bool, by-cases, true-not-false, and-true}
 use Rattle.demands.specs.Terms.{howMany}
 use Rattle.demands.specs.Turned.{kind, field, Came, Holds}
 
@@ -18,10 +18,10 @@ by-five k e device task claims releases end =
     let range = and-true (leb 1 k) (leb k 5) e in
     let low = leb-true 1 k (range .0) in
     let high = leb-true k 5 (range .1) in
-    by-test (eqb k 1) (λ t. device (eqb-true k 1 t)) λ n₁.
-    by-test (eqb k 2) (λ t. task (eqb-true k 2 t)) λ n₂.
-    by-test (eqb k 3) (λ t. claims (eqb-true k 3 t)) λ n₃.
-    by-test (eqb k 4) (λ t. releases (eqb-true k 4 t)) λ n₄.
+    by-bool (eqb k 1) (λ t. device (eqb-true k 1 t)) λ n₁.
+    by-bool (eqb k 2) (λ t. task (eqb-true k 2 t)) λ n₂.
+    by-bool (eqb k 3) (λ t. claims (eqb-true k 3 t)) λ n₃.
+    by-bool (eqb k 4) (λ t. releases (eqb-true k 4 t)) λ n₄.
     end (omega (arith, eqb-false k 1 n₁, eqb-false k 2 n₂, eqb-false k 3 n₃, eqb-false k 4 n₄))
 
 -- a number below n + 1 is n or below n
@@ -41,13 +41,13 @@ module _ (f : ℕ → Bool) where
   unfolding howMany
   some-passes zero h = absurd (omega arith)
   some-passes (suc n) h =
-      by-test (f n) (λ e. (n, omega arith, e)) λ e.
+      by-bool (f n) (λ e. (n, omega arith, e)) λ e.
       let r = some-passes n (rw (many-same n e) at h) in (r .0, omega arith, r .2)
 
   pub passes-some : (n j : ℕ) → j < n → f j ≡ true → 0 < howMany n f
   passes-some zero j l e = absurd (omega arith)
   passes-some (suc n) j l e =
-      by-test (f n) (λ t. rw (many-more n t) (omega arith)) λ t.
+      by-bool (f n) (λ t. rw (many-more n t) (omega arith)) λ t.
       rw (many-same n t) (by-last j n l (λ z. true-not-false (f j) e (rw z t)) (λ m. passes-some n j m e))
 
 module _ (ws : List ℕ) (i : ℕ) where

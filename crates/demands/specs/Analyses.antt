@@ -3,12 +3,13 @@ use Prim.Native.Nat.{ℕ, suc, _+_, _*_, _<_, _≤_}
 use mathlib.Core.Path.{_≡_}
 use mathlib.Core.List.{List, [], _∷_, _++_, map, flatten}
 use lib.ListN.{length, drop, replicate}
+use Rattle.model.specs.Answer.{given, refused}
 use Rattle.model.specs.Set.{Set, lengthsOf, size}
 use Rattle.model.specs.Box.{Box}
-use Rattle.model.specs.Plan.{mapOf, Plan, planOf, planWords}
-use Rattle.model.specs.Answer.{planned, refused}
+use Rattle.model.specs.Map.{mapOf}
+use Rattle.model.specs.Plan.{Plan, planOf, planWords}
 use Rattle.model.specs.Analysis.{analyse}
-use Rattle.model.specs.Read.{reads, read}
+use Rattle.model.specs.Read.{read}
 
 -- one word a task of kind 8, from task t on: bits 23 to 16 task, 15 to 8 lowest, 7 to 0 highest position
 unfoldable pub sidesFrom : ℕ → Box → List ℕ
@@ -39,12 +40,12 @@ pub record OfAnalysis (words : List ℕ) (s : Set) : Type 0 where
   pub plan-short : (map plan : List ℕ) → size (lengthsOf s) ≤ length map → length plan < planLength s
       → analyse words map plan
       ≡ record { answer = refused 14 (length plan); map = mapOf s ++ drop (size (lengthsOf s)) map; plan = replicate (length plan) 0 }
-  -- else it is planned, with the plan's length; beyond map and plan the slices keep what they had
+  -- else it is accepted, with the plan's length; beyond map and plan the slices keep what they had
   pub made : (map plan : List ℕ) → size (lengthsOf s) ≤ length map → planLength s ≤ length plan
       → analyse words map plan
-      ≡ record { answer = planned (planLength s); map = mapOf s ++ drop (size (lengthsOf s)) map; plan = planWords (planOf s) ++ drop (planLength s) plan }
+      ≡ record { answer = given (planLength s); map = mapOf s ++ drop (size (lengthsOf s)) map; plan = planWords (planOf s) ++ drop (planLength s) plan }
 
 pub record Analyses : Type 0 where
   -- the words of a plan, and END as in a set
   pub plan-words : (p : Plan) → planWords p ≡ listOf p ++ ((0x50000000 + length (listOf p)) ∷ [])
-  pub analyses : (words : List ℕ) (s : Set) → read words ≡ reads s → OfAnalysis words s
+  pub analyses : (words : List ℕ) (s : Set) → read words ≡ given s → OfAnalysis words s

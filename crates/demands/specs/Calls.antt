@@ -5,16 +5,17 @@ use mathlib.Core.Path.{_≡_}
 use mathlib.Core.Logic.{_↔_, _⊎_}
 use mathlib.Core.List.{List, [], _∷_, _++_, map, flatten, List·Memᴰ}
 use lib.ListN.{length, drop, set, replicate}
+use Rattle.model.specs.Answer.{Answer, given, refused}
 use Rattle.model.specs.Set.{Action, claim, release, Set, lengthsOf, taskAt, actionAt, at, size}
 use Rattle.model.specs.State.{State, next, rank}
-use Rattle.model.specs.Read.{reads, faulty, read}
-use Rattle.model.specs.Answer.{Answer, routed, restarted, granted, finished, busy, held, refused}
+use Rattle.model.specs.Read.{read}
 use Rattle.model.specs.Analysis.{analyse}
-use Rattle.model.specs.Broker.{Record, fresh, Served, stateIn, bid, again, Call, bids, agains, serve, afterCalls, grantCount, IsRound, roundCalls}
+use Rattle.model.specs.Record.{Record, fresh, stateIn}
+use Rattle.model.specs.Broker.{restarted, granted, finished, busy, held, Served, bid, again, Call, bids, agains, afterCall, afterCalls, grantCount, IsRound, roundCalls}
 use Rattle.model.specs.Route.{Routed, route}
 
 -- an answer that leaves the record as it was
-abbrev pub unchanged : Answer → Record → Served
+abbrev pub unchanged : {A : Type 0} → Answer A → Record → Served A
 unchanged a r = record { answer = a; after = r }
 
 -- a refused route fills its slice with 255
@@ -76,7 +77,7 @@ module _ (words : List ℕ) (s : Set) (r : Record) where
     pub not-ended : (Misplaced s r → ⊥) → (x ≡ lengthsOf s → ⊥) → again words r ≡ unchanged (refused 19 (rank (lengthsOf s) x)) r
     -- at the end all positions become 0, and the grant number stays
     pub at-end : x ≡ lengthsOf s → (Misplaced s r → ⊥)
-        → again words r ≡ record { answer = restarted; after = record { positions = replicate 8 0; grants = r .grants } }
+        → again words r ≡ record { answer = given restarted; after = record { positions = replicate 8 0; grants = r .grants } }
 
   module _ (m : List ℕ) where
     -- a bid of task t
@@ -84,17 +85,17 @@ module _ (words : List ℕ) (s : Set) (r : Record) where
       pub map-short : length m < size (lengthsOf s) → bid words m r t ≡ unchanged (refused 13 (size (lengthsOf s))) r
       pub bad-record : size (lengthsOf s) ≤ length m → Misplaced s r ⊎ (byteOf s m x ≡ 0 → ⊥) → bid words m r t ≡ unchanged (refused 16 0) r
       pub no-task : Ready s r m → length (s .tasks) ≤ t → bid words m r t ≡ unchanged (refused 17 t) r
-      pub is-finished : Ready s r m → t < length (s .tasks) → length (taskAt s t) ≤ at x t → bid words m r t ≡ unchanged finished r
+      pub is-finished : Ready s r m → t < length (s .tasks) → length (taskAt s t) ≤ at x t → bid words m r t ≡ unchanged (given finished) r
       -- by the next state's byte
       pub bad-byte : Ready s r m → at x t < length (taskAt s t) → 3 < byteOf s m (next x t) → bid words m r t ≡ unchanged (refused 18 (rank (lengthsOf s) (next x t))) r
       pub is-busy : Ready s r m → at x t < length (taskAt s t) → byteOf s m (next x t) ≡ 1 → (d : ℕ) → Names (actionAt s t (at x t)) d
-          → bid words m r t ≡ unchanged (busy d) r
+          → bid words m r t ≡ unchanged (given (busy d)) r
       pub is-held : Ready s r m → at x t < length (taskAt s t) → (byteOf s m (next x t) ≡ 2) ⊎ (byteOf s m (next x t) ≡ 3)
-          → bid words m r t ≡ unchanged (held (rank (lengthsOf s) (next x t))) r
+          → bid words m r t ≡ unchanged (given (held (rank (lengthsOf s) (next x t)))) r
       -- a grant is one step: that position rises by 1 and the grant number by 1, FFFFFFFF being followed by 0
       pub is-granted : Ready s r m → at x t < length (taskAt s t) → byteOf s m (next x t) ≡ 0
           → bid words m r t
-          ≡ record { answer = granted; after = record { positions = set (r .positions) t (at (r .positions) t + 1); grants = (r .grants + 1) % 0x100000000 } }
+          ≡ record { answer = given granted; after = record { positions = set (r .positions) t (at (r .positions) t + 1); grants = (r .grants + 1) % 0x100000000 } }
 
     -- a walk from an open state, one byte a step: 18 where it stops before the end, 21 where the slice is shorter
     pub record Walks (slice : List ℕ) : Type 0 where
@@ -104,7 +105,7 @@ module _ (words : List ℕ) (s : Set) (r : Record) where
       pub stuck : (last ≡ lengthsOf s → ⊥) → route words m r slice ≡ noRoute 18 (rank (lengthsOf s) last) slice
       pub short : last ≡ lengthsOf s → length slice < length steps → route words m r slice ≡ noRoute 21 (length steps) slice
       pub arrives : last ≡ lengthsOf s → length steps ≤ length slice
-          → route words m r slice ≡ record { answer = routed (length steps); route = steps ++ drop (length steps) slice }
+          → route words m r slice ≡ record { answer = given (length steps); route = steps ++ drop (length steps) slice }
 
     -- a route
     pub record OfRoute (slice : List ℕ) : Type 0 where
@@ -117,25 +118,26 @@ module _ (words : List ℕ) (s : Set) (r : Record) where
 
 -- lists of calls on words and a map
 pub record OfLists (words m : List ℕ) : Type 0 where
-  pub a-bid : (r : Record) (t : ℕ) → serve words m r (bids t) ≡ bid words m r t
-  pub an-again : (r : Record) → serve words m r agains ≡ again words r
+  pub a-bid : (r : Record) (t : ℕ) → afterCall words m r (bids t) ≡ bid words m r t .after
+  pub an-again : (r : Record) → afterCall words m r agains ≡ again words r .after
   -- each call gets the record as the last one left it
   pub no-call : (r : Record) → afterCalls words m r [] ≡ r
-  pub more-calls : (r : Record) (c : Call) (cs : List Call) → afterCalls words m r (c ∷ cs) ≡ afterCalls words m (serve words m r c .after) cs
-  -- the count of the calls answered Granted
+  pub more-calls : (r : Record) (c : Call) (cs : List Call) → afterCalls words m r (c ∷ cs) ≡ afterCalls words m (afterCall words m r c) cs
+  -- the count of the bids answered Granted: no again is one
   pub none-granted : (r : Record) → grantCount words m r [] ≡ 0
-  pub one-granted : (r : Record) (c : Call) (cs : List Call) → serve words m r c .answer ≡ granted
-      → grantCount words m r (c ∷ cs) ≡ 1 + grantCount words m (serve words m r c .after) cs
-  pub other-answer : (r : Record) (c : Call) (cs : List Call) → (serve words m r c .answer ≡ granted → ⊥)
-      → grantCount words m r (c ∷ cs) ≡ grantCount words m (serve words m r c .after) cs
+  pub one-granted : (r : Record) (t : ℕ) (cs : List Call) → bid words m r t .answer ≡ given granted
+      → grantCount words m r (bids t ∷ cs) ≡ 1 + grantCount words m (bid words m r t .after) cs
+  pub other-answer : (r : Record) (t : ℕ) (cs : List Call) → (bid words m r t .answer ≡ given granted → ⊥)
+      → grantCount words m r (bids t ∷ cs) ≡ grantCount words m (bid words m r t .after) cs
+  pub again-answer : (r : Record) (cs : List Call) → grantCount words m r (agains ∷ cs) ≡ grantCount words m (again words r .after) cs
 
 pub record Calls : Type 0 where
-  pub faults : (words : List ℕ) (n p : ℕ) → read words ≡ faulty n p → OfFaulty words n p
-  pub states : (words : List ℕ) (s : Set) → read words ≡ reads s → (r : Record) → length (r .positions) ≡ 8 → OfState s r
-  pub agains-right : (words : List ℕ) (s : Set) → read words ≡ reads s → (r : Record) → length (r .positions) ≡ 8 → OfAgain words s r
-  pub bids-right : (words : List ℕ) (s : Set) → read words ≡ reads s → (r : Record) → length (r .positions) ≡ 8 → (m : List ℕ) (t : ℕ)
+  pub faults : (words : List ℕ) (n p : ℕ) → read words ≡ refused n p → OfFaulty words n p
+  pub states : (words : List ℕ) (s : Set) → read words ≡ given s → (r : Record) → length (r .positions) ≡ 8 → OfState s r
+  pub agains-right : (words : List ℕ) (s : Set) → read words ≡ given s → (r : Record) → length (r .positions) ≡ 8 → OfAgain words s r
+  pub bids-right : (words : List ℕ) (s : Set) → read words ≡ given s → (r : Record) → length (r .positions) ≡ 8 → (m : List ℕ) (t : ℕ)
       → OfBid words s r m t
-  pub routes-right : (words : List ℕ) (s : Set) → read words ≡ reads s → (r : Record) → length (r .positions) ≡ 8 → (m slice : List ℕ)
+  pub routes-right : (words : List ℕ) (s : Set) → read words ≡ given s → (r : Record) → length (r .positions) ≡ 8 → (m slice : List ℕ)
       → OfRoute words s r m slice
   pub lists : (words m : List ℕ) → OfLists words m
   -- the fresh record: all 0

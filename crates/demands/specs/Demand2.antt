@@ -5,15 +5,15 @@ use mathlib.Core.Path.{_≡_}
 use mathlib.Core.Logic.{_↔_}
 use mathlib.Core.Bool.{true}
 use mathlib.Core.List.{List, map, List·Memᴰ}
+use Rattle.model.specs.Answer.{given}
 use Rattle.model.specs.Set.{Set, lengthsOf, size}
 use Rattle.model.specs.Layout.{encode, WellFormed}
-use Rattle.model.specs.Read.{reads, read, setIn}
+use Rattle.model.specs.Read.{read, setIn}
 use Rattle.model.specs.State.{State, stateAt, InGrid}
 use Rattle.model.specs.Hold.{Overfull}
 use Rattle.model.specs.Box.{covered}
 use Rattle.model.specs.Forbidden.{forbidden}
 use Rattle.model.specs.Plan.{unsafeOf, Plan, planOf, planFrom}
-use Rattle.model.specs.Answer.{planned}
 use Rattle.model.specs.Analysis.{analyse}
 use Rattle.demands.specs.Terms.{Ordered}
 use Rattle.demands.specs.MapDemand.{IsDead}
@@ -21,9 +21,9 @@ use Rattle.demands.specs.MapDemand.{IsDead}
 -- first part: the sets of the layout and no others
 pub record LayoutExact : Type 0 where
   -- the words of a well-formed set are accepted, and read as that set
-  pub accepts : (s : Set) → WellFormed s → read (encode s) ≡ reads s
+  pub accepts : (s : Set) → WellFormed s → read (encode s) ≡ given s
   -- accepted words are the words of the set that is read, and it is well formed
-  pub no-others : (words : List ℕ) (s : Set) → read words ≡ reads s → (words ≡ encode s) × WellFormed s
+  pub no-others : (words : List ℕ) (s : Set) → read words ≡ given s → (words ≡ encode s) × WellFormed s
   -- well-formed sets with equal words are equal
   pub one-set : (s r : Set) → WellFormed s → WellFormed r → encode s ≡ encode r → s ≡ r
 
@@ -45,5 +45,5 @@ pub record Demand2 : Type 0 where
   -- of the plan of every set
   pub of-set : (s : Set) → PlanExact s (planOf s)
   -- where an analysis is accepted, of the plan read back from the plan slice as it leaves it, whatever the slices held and however long they are
-  pub plan : (words mapped plan : List ℕ) (n : ℕ) → analyse words mapped plan .answer ≡ planned n
+  pub plan : (words mapped plan : List ℕ) (n : ℕ) → analyse words mapped plan .answer ≡ given n
       → PlanExact (setIn words) (planFrom (analyse words mapped plan .plan))

@@ -6,15 +6,16 @@ use mathlib.Core.Logic.{_↔_}
 use mathlib.Core.Bool.{true, false}
 use mathlib.Core.List.{List, map, List·Memᴰ}
 use lib.ListN.{length}
+use Rattle.model.specs.Answer.{given, refused}
 use Rattle.model.specs.Set.{Set, lengthsOf}
-use Rattle.model.specs.Read.{reads, read, setIn}
+use Rattle.model.specs.Read.{read, setIn}
 use Rattle.model.specs.State.{State, sum, InGrid}
 use Rattle.model.specs.Hold.{permitted}
 use Rattle.model.specs.Box.{covered}
 use Rattle.model.specs.Plan.{Plan, planFrom}
-use Rattle.model.specs.Answer.{planned, refused}
 use Rattle.model.specs.Analysis.{analyse}
-use Rattle.model.specs.Broker.{fresh, Call, stateIn, afterCalls, grantCount, IsRound, roundCalls}
+use Rattle.model.specs.Record.{fresh, stateIn}
+use Rattle.model.specs.Broker.{Call, afterCalls, grantCount, IsRound, roundCalls}
 use Rattle.demands.specs.MapDemand.{ReachesEnd, IsOpen, Bytes}
 use Rattle.demands.specs.Analyses.{OfAnalysis}
 
@@ -45,7 +46,7 @@ pub record OfPlan (words m : List ℕ) (p : Plan) : Type 0 where
 -- for all words and all slices lent to an analysis of them, with the slices as it leaves them, the plan read back up to its kind 5
 pub record Demand3 : Type 0 where
   -- an analysis of a set is accepted exactly if its map and plan have room in the slices, as `Analyses` says: so nothing below is said of no set
-  pub answers : (words : List ℕ) (s : Set) → read words ≡ reads s → OfAnalysis words s
-  pub accepted : (words map plan : List ℕ) (n : ℕ) → analyse words map plan .answer ≡ planned n
+  pub answers : (words : List ℕ) (s : Set) → read words ≡ given s → OfAnalysis words s
+  pub accepted : (words map plan : List ℕ) (n : ℕ) → analyse words map plan .answer ≡ given n
       → OfMap words (analyse words map plan .map) × OfPlan words (analyse words map plan .map) (planFrom (analyse words map plan .plan))
   pub plan-too-short : (words map plan : List ℕ) (place : ℕ) → analyse words map plan .answer ≡ refused 14 place → OfMap words (analyse words map plan .map)

@@ -3,12 +3,14 @@ use Prim.Native.Nat.{ℕ}
 use mathlib.Core.Path.{_≡_}
 use mathlib.Core.List.{List, [], _∷_, map}
 use lib.ListN.{length, replicate}
+use Rattle.model.specs.Answer.{Answer, given, refused}
 use Rattle.model.specs.Set.{Set, claim, release}
-use Rattle.model.specs.Read.{faulty, read}
-use Rattle.model.specs.Plan.{ranksFrom, mapOf, unsafeOf, deadOf}
-use Rattle.model.specs.Answer.{Answer, planned, routed, granted, busy, held}
+use Rattle.model.specs.Read.{read}
+use Rattle.model.specs.Map.{mapOf}
+use Rattle.model.specs.Plan.{ranksFrom, unsafeOf, deadOf}
 use Rattle.model.specs.Analysis.{Analysed, analyse}
-use Rattle.model.specs.Broker.{Record, fresh, Call, bids, serve, bid, afterCalls}
+use Rattle.model.specs.Record.{Record, fresh}
+use Rattle.model.specs.Broker.{granted, busy, held, bids, bid, afterCalls, Bid}
 use Rattle.model.specs.Route.{route}
 use Rattle.demands.specs.Terms.{_to_}
 
@@ -20,10 +22,10 @@ count s b = length (ranksFrom b 0 (mapOf s))
 abbrev pub analysed : List ℕ → ℕ → ℕ → Analysed
 analysed words g n = analyse words (replicate g 0) (replicate n 0)
 
--- the answers to a list of calls
-unfoldable pub answers : List ℕ → List ℕ → Record → List Call → List Answer
+-- the answers to the bids of these tasks, each given the record as the last one left it
+unfoldable pub answers : List ℕ → List ℕ → Record → List ℕ → List (Answer Bid)
 answers words m r [] = []
-answers words m r (c ∷ cs) = serve words m r c .answer ∷ answers words m (serve words m r c .after) cs
+answers words m r (t ∷ ts) = bid words m r t .answer ∷ answers words m (bid words m r t .after) ts
 
 -- example a: its words, and the map that its analysis leaves
 abbrev pub a : List ℕ
@@ -39,9 +41,9 @@ mapA = analysed a 25 11 .map
 abbrev pub recordA : ℕ → ℕ → ℕ → Record
 recordA p q n = record { positions = p ∷ q ∷ 0 ∷ 0 ∷ 0 ∷ 0 ∷ 0 ∷ 0 ∷ []; grants = n }
 
--- the bids of example b
-abbrev pub bidsB : List Call
-bidsB = map bids (0 ∷ 1 ∷ 0 ∷ 1 ∷ 0 ∷ 1 ∷ [])
+-- the tasks that bid in example b
+abbrev pub bidsB : List ℕ
+bidsB = 0 ∷ 1 ∷ 0 ∷ 1 ∷ 0 ∷ 1 ∷ []
 
 -- example d: devices a, b, c are 0, 1, 2
 abbrev pub d : Set
@@ -63,15 +65,15 @@ e = record {
 -- document 01, "Desk examples", a to l
 pub record Examples : Type 0 where
   -- a's plan, word for word
-  pub a-answer : analysed a 25 11 .answer ≡ planned 11
+  pub a-answer : analysed a 25 11 .answer ≡ given 11
   pub a-plan : analysed a 25 11 .plan
       ≡ 0x60000000 ∷ 0x80000103 ∷ 0x80010202 ∷ 0x60000001 ∷ 0x80000202 ∷ 0x80010103
       ∷ 0x70000000 ∷ 0x80000101 ∷ 0x80010101 ∷ 0x90000006 ∷ 0x5000000A ∷ []
   -- b's answers and grant number
-  pub b-answers : answers a mapA fresh bidsB ≡ granted ∷ held 6 ∷ granted ∷ busy 1 ∷ granted ∷ granted ∷ []
-  pub b-number : afterCalls a mapA fresh bidsB .grants ≡ 4
+  pub b-answers : answers a mapA fresh bidsB ≡ given granted ∷ given (held 6) ∷ given granted ∷ given (busy 1) ∷ given granted ∷ given granted ∷ []
+  pub b-number : afterCalls a mapA fresh (map bids bidsB) .grants ≡ 4
   -- c's route from (0,1)
-  pub c-answer : route a mapA (recordA 0 1 0) (replicate 7 0) .answer ≡ routed 7
+  pub c-answer : route a mapA (recordA 0 1 0) (replicate 7 0) .answer ≡ given 7
   pub c-route : route a mapA (recordA 0 1 0) (replicate 7 0) .route ≡ 1 ∷ 1 ∷ 0 ∷ 1 ∷ 0 ∷ 0 ∷ 0 ∷ []
   -- d's unsafe boxes, dead rank and counts; its unsafe states are 5 of byte 2 and the dead one
   pub d-unsafe : unsafeOf d ≡ (2 to 3 ∷ 1 to 3 ∷ []) ∷ (1 to 1 ∷ 1 to 1 ∷ []) ∷ []
@@ -84,12 +86,12 @@ pub record Examples : Type 0 where
   pub f-plan : analysed (0x20000000 ∷ 0x50000001 ∷ []) 1 1 .plan ≡ 0x50000000 ∷ []
   -- g: a device that no task claims, and a capacity of 9
   pub g-plan : analysed (0x10000008 ∷ 0x20000000 ∷ 0x50000002 ∷ []) 1 1 .plan ≡ 0x50000000 ∷ []
-  pub g-refused : read (0x10000009 ∷ []) ≡ faulty 6 0
+  pub g-refused : read (0x10000009 ∷ []) ≡ refused 6 0
   -- h to k are refused
-  pub h-refused : read (0x30000000 ∷ []) ≡ faulty 5 0
-  pub i-refused : read (0x20000000 ∷ []) ≡ faulty 11 1
-  pub j-refused : read (0x10000001 ∷ 0x20000000 ∷ 0x30000000 ∷ 0x30000000 ∷ []) ≡ faulty 8 3
-  pub k-refused : read (0x10000001 ∷ 0x20000000 ∷ 0x30000000 ∷ 0x50000003 ∷ []) ≡ faulty 10 3
+  pub h-refused : read (0x30000000 ∷ []) ≡ refused 5 0
+  pub i-refused : read (0x20000000 ∷ []) ≡ refused 11 1
+  pub j-refused : read (0x10000001 ∷ 0x20000000 ∷ 0x30000000 ∷ 0x30000000 ∷ []) ≡ refused 8 3
+  pub k-refused : read (0x10000001 ∷ 0x20000000 ∷ 0x30000000 ∷ 0x50000003 ∷ []) ≡ refused 10 3
   -- l: FFFFFFFF is followed by 0
-  pub l-answer : bid a mapA (recordA 0 0 0xFFFFFFFF) 0 .answer ≡ granted
+  pub l-answer : bid a mapA (recordA 0 0 0xFFFFFFFF) 0 .answer ≡ given granted
   pub l-number : bid a mapA (recordA 0 0 0xFFFFFFFF) 0 .after .grants ≡ 0

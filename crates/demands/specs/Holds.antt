@@ -9,7 +9,7 @@ use Rattle.model.specs.Set.{claim, release, Task, Set, lengthsOf, taskAt, at}
 use Rattle.model.specs.Layout.{WellFormed}
 use Rattle.model.specs.State.{State, InGrid}
 use Rattle.model.specs.Hold.{Interval, holds, holding, held, permitted}
-use Rattle.model.specs.Plan.{mapOf}
+use Rattle.model.specs.Map.{mapOf}
 use Rattle.demands.specs.Terms.{_to_, howMany, Ordered, StillHeld}
 
 -- a claim of device d that is the task's action p (counted from 1, so at place p - 1), released by action q, is a hold over positions p to q - 1

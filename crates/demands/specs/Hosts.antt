@@ -1,28 +1,39 @@
 -- What hosts are told, in the numbers that include/arbiter.h names: no answer is lost in them.
 use Prim.Native.Nat.{ℕ}
 use mathlib.Core.Path.{_≡_}
+use Rattle.model.specs.Answer.{Answer, given, refused}
 use Rattle.model.specs.Set.{Set, lengthsOf, size}
-use Rattle.model.specs.Read.{reads, faulty}
-use Rattle.model.specs.Answer.{Answer, planned, routed, restarted, granted, finished, busy, held, refused}
-use Rattle.model.specs.Told.{Told, tell, hear, tellReading}
+use Rattle.model.specs.Broker.{Bid, granted, finished, busy, held, Again, restarted}
+use Rattle.model.specs.Told.{Told, tellReading, tellAnalysis, tellRoute, tellBid, tellAgain, hearNumber, hearBid, hearAgain}
 
 -- a kind, a refusal's number and a value
 abbrev pub numbers : ℕ → ℕ → ℕ → Told
 numbers k n v = record { kind = k; refusal = n; value = v }
 
 pub record Hosts : Type 0 where
-  -- the numbers of each answer; an answer of zeros is no call's, since no refusal has number 0 (`Refusals`)
-  pub of-refused : (n p : ℕ) → tell (refused n p) ≡ numbers 0 n p
-  pub of-planned : (n : ℕ) → tell (planned n) ≡ numbers 2 0 n
-  pub of-routed : (n : ℕ) → tell (routed n) ≡ numbers 3 0 n
-  pub of-granted : tell granted ≡ numbers 4 0 0
-  pub of-finished : tell finished ≡ numbers 5 0 0
-  pub of-busy : (d : ℕ) → tell (busy d) ≡ numbers 6 0 d
-  pub of-held : (r : ℕ) → tell (held r) ≡ numbers 7 0 r
-  pub of-restarted : tell restarted ≡ numbers 8 0 0
+  -- a refusal of any call: kind 0, its number and its place; an answer of zeros is no call's, since no refusal has number 0 (`Refusals`)
+  pub of-refused : (n p : ℕ)
+      → (tellAnalysis (refused n p) ≡ numbers 0 n p)
+      × (tellRoute (refused n p) ≡ numbers 0 n p)
+      × (tellBid (refused n p) ≡ numbers 0 n p)
+      × (tellAgain (refused n p) ≡ numbers 0 n p)
+  -- a value's kind is one call's alone
+  pub of-planned : (n : ℕ) → tellAnalysis (given n) ≡ numbers 2 0 n
+  pub of-routed : (n : ℕ) → tellRoute (given n) ≡ numbers 3 0 n
+  pub of-granted : tellBid (given granted) ≡ numbers 4 0 0
+  pub of-finished : tellBid (given finished) ≡ numbers 5 0 0
+  pub of-busy : (d : ℕ) → tellBid (given (busy d)) ≡ numbers 6 0 d
+  pub of-held : (r : ℕ) → tellBid (given (held r)) ≡ numbers 7 0 r
+  pub of-restarted : tellAgain (given restarted) ≡ numbers 8 0 0
   -- a set that is read is told with its grid, one that is refused as every refusal
-  pub of-accepted : (s : Set) → tellReading (reads s) ≡ numbers 1 0 (size (lengthsOf s))
-  pub of-faulty : (n p : ℕ) → tellReading (faulty n p) ≡ numbers 0 n p
-  -- a host hears every answer as it was given, so no two answers are told alike
-  pub heard-told : (a : Answer) → hear (tell a) ≡ a
-  pub told-apart : (a b : Answer) → tell a ≡ tell b → a ≡ b
+  pub of-accepted : (s : Set) → tellReading (given s) ≡ numbers 1 0 (size (lengthsOf s))
+  pub of-faulty : (n p : ℕ) → tellReading (refused n p) ≡ numbers 0 n p
+  -- a host hears every answer of a call as it was given, so no two of them are told alike
+  pub heard-told : ((a : Answer ℕ) → hearNumber (tellAnalysis a) ≡ a)
+      × ((a : Answer ℕ) → hearNumber (tellRoute a) ≡ a)
+      × ((a : Answer Bid) → hearBid (tellBid a) ≡ a)
+      × ((a : Answer Again) → hearAgain (tellAgain a) ≡ a)
+  pub told-apart : ((a b : Answer ℕ) → tellAnalysis a ≡ tellAnalysis b → a ≡ b)
+      × ((a b : Answer ℕ) → tellRoute a ≡ tellRoute b → a ≡ b)
+      × ((a b : Answer Bid) → tellBid a ≡ tellBid b → a ≡ b)
+      × ((a b : Answer Again) → tellAgain a ≡ tellAgain b → a ≡ b)

@@ -4,7 +4,8 @@ use mathlib.Core.Path.{_≡_}
 use mathlib.Core.List.{List, [], map}
 use lib.ListN.{length, getD}
 use Rattle.model.specs.Set.{claim, Set, lengthsOf, taskAt, actionAt, at}
-use Rattle.model.specs.Read.{reads, read, setIn}
+use Rattle.model.specs.Answer.{given}
+use Rattle.model.specs.Read.{read, setIn}
 use Rattle.model.specs.Box.{Box, side}
 use Rattle.demands.specs.Terms.{_to_}
 
@@ -17,4 +18,4 @@ pub record Places : Type 0 where
   -- the L of each task
   pub counts : (s : Set) → lengthsOf s ≡ map length (s .tasks)
   -- the set of accepted words
-  pub set-read : (words : List ℕ) (s : Set) → read words ≡ reads s → setIn words ≡ s
+  pub set-read : (words : List ℕ) (s : Set) → read words ≡ given s → setIn words ≡ s

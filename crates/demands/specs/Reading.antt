@@ -6,7 +6,8 @@ use mathlib.Core.List.{List, [], _∷_, _++_, map, flatten}
 use lib.ListN.{length, replicate}
 use Rattle.model.specs.Set.{Action, claim, release, Set, lengthsOf, taskAt, actionAt, at, size}
 use Rattle.model.specs.Layout.{encode, WellFormed}
-use Rattle.model.specs.Read.{reads, faulty, read}
+use Rattle.model.specs.Answer.{given, refused}
+use Rattle.model.specs.Read.{read}
 use Rattle.demands.specs.Terms.{times, StillHeld}
 
 -- the sentences of "The set", each by itself
@@ -52,84 +53,84 @@ pub record ReadingRight : Type 0 where
   pub odd : (s : Set) → WellFormed s → size (lengthsOf s) % 2 ≡ 1
   -- accepted: two devices of the least and the most capacity, and a task without actions between two others; no device at all
   pub accepted : (read (0x10000001 ∷ 0x10000008 ∷ 0x20000000 ∷ 0x30000001 ∷ 0x30000000 ∷ 0x40000001 ∷ 0x40000000 ∷ 0x20000000 ∷ 0x20000000 ∷ 0x30000001 ∷ 0x40000001 ∷ 0x5000000B ∷ [])
-      ≡ reads (record { capacities = 1 ∷ 8 ∷ []; tasks = (claim 1 ∷ claim 0 ∷ release 1 ∷ release 0 ∷ []) ∷ [] ∷ (claim 1 ∷ release 1 ∷ []) ∷ [] }))
-      × (read (0x20000000 ∷ 0x50000001 ∷ []) ≡ reads (record { capacities = []; tasks = [] ∷ [] }))
+      ≡ given (record { capacities = 1 ∷ 8 ∷ []; tasks = (claim 1 ∷ claim 0 ∷ release 1 ∷ release 0 ∷ []) ∷ [] ∷ (claim 1 ∷ release 1 ∷ []) ∷ [] }))
+      × (read (0x20000000 ∷ 0x50000001 ∷ []) ≡ given (record { capacities = []; tasks = [] ∷ [] }))
   -- 1: no words
-  pub refusal-1 : read [] ≡ faulty 1 0
+  pub refusal-1 : read [] ≡ refused 1 0
   -- 2: over 4,096 words, whatever they are
-  pub refusal-2 : (read (replicate 4097 0) ≡ faulty 2 4096) × (read (replicate 4096 0) ≡ faulty 4 0)
+  pub refusal-2 : (read (replicate 4097 0) ≡ refused 2 4096) × (read (replicate 4096 0) ≡ refused 4 0)
   -- 3: a word after END; before 4, 5, 6, 7, 9 and 12
-  pub refusal-3 : (read (0x20000000 ∷ 0x50000001 ∷ 0x50000002 ∷ []) ≡ faulty 3 2)
-      × (read (0x20000000 ∷ 0x50000001 ∷ 0x00000000 ∷ []) ≡ faulty 3 2)
-      × (read (0x20000000 ∷ 0x50000001 ∷ 0x10000001 ∷ []) ≡ faulty 3 2)
-      × (read (0x20000000 ∷ 0x50000001 ∷ 0x20000001 ∷ []) ≡ faulty 3 2)
-      × (read (replicate 8 0x20000000 ++ (0x50000008 ∷ 0x20000000 ∷ [])) ≡ faulty 3 9)
-      × (read (0x10000001 ∷ 0x20000000 ∷ 0x50000002 ∷ 0x40000000 ∷ []) ≡ faulty 3 3)
-      × (read (0x10000001 ∷ 0x20000000 ∷ times 127 turnWords (0x20000000 ∷ times 127 turnWords (0x20000000 ∷ times 1 turnWords (0x50000202 ∷ 0x20000000 ∷ [])))) ≡ faulty 3 515)
+  pub refusal-3 : (read (0x20000000 ∷ 0x50000001 ∷ 0x50000002 ∷ []) ≡ refused 3 2)
+      × (read (0x20000000 ∷ 0x50000001 ∷ 0x00000000 ∷ []) ≡ refused 3 2)
+      × (read (0x20000000 ∷ 0x50000001 ∷ 0x10000001 ∷ []) ≡ refused 3 2)
+      × (read (0x20000000 ∷ 0x50000001 ∷ 0x20000001 ∷ []) ≡ refused 3 2)
+      × (read (replicate 8 0x20000000 ++ (0x50000008 ∷ 0x20000000 ∷ [])) ≡ refused 3 9)
+      × (read (0x10000001 ∷ 0x20000000 ∷ 0x50000002 ∷ 0x40000000 ∷ []) ≡ refused 3 3)
+      × (read (0x10000001 ∷ 0x20000000 ∷ times 127 turnWords (0x20000000 ∷ times 127 turnWords (0x20000000 ∷ times 1 turnWords (0x50000202 ∷ 0x20000000 ∷ [])))) ≡ refused 3 515)
   -- 4: a kind that is not 1 to 5, before 5 and 6
-  pub refusal-4 : (read (0x00000001 ∷ []) ≡ faulty 4 0) × (read (0x6FFFFFFF ∷ []) ≡ faulty 4 0) × (read (0x20000000 ∷ 0xF0000000 ∷ []) ≡ faulty 4 1)
+  pub refusal-4 : (read (0x00000001 ∷ []) ≡ refused 4 0) × (read (0x6FFFFFFF ∷ []) ≡ refused 4 0) × (read (0x20000000 ∷ 0xF0000000 ∷ []) ≡ refused 4 1)
   -- 5: DEVICE after a TASK, CLAIM, RELEASE or END before any; before 6, 7 and 9
-  pub refusal-5 : (read (0x20000000 ∷ 0x10000001 ∷ []) ≡ faulty 5 1)
-      × (read (0x10000001 ∷ 0x30000000 ∷ []) ≡ faulty 5 1)
-      × (read (0x10000001 ∷ 0x40000000 ∷ []) ≡ faulty 5 1)
-      × (read (0x50000000 ∷ []) ≡ faulty 5 0)
-      × (read (0x50000001 ∷ []) ≡ faulty 5 0)
-      × (read (0x20000000 ∷ 0x10000009 ∷ []) ≡ faulty 5 1)
-      × (read (replicate 16 0x10000001 ++ (0x20000000 ∷ 0x10000001 ∷ [])) ≡ faulty 5 17)
+  pub refusal-5 : (read (0x20000000 ∷ 0x10000001 ∷ []) ≡ refused 5 1)
+      × (read (0x10000001 ∷ 0x30000000 ∷ []) ≡ refused 5 1)
+      × (read (0x10000001 ∷ 0x40000000 ∷ []) ≡ refused 5 1)
+      × (read (0x50000000 ∷ []) ≡ refused 5 0)
+      × (read (0x50000001 ∷ []) ≡ refused 5 0)
+      × (read (0x20000000 ∷ 0x10000009 ∷ []) ≡ refused 5 1)
+      × (read (replicate 16 0x10000001 ++ (0x20000000 ∷ 0x10000001 ∷ [])) ≡ refused 5 17)
   -- 6: a capacity of 0 or 9; TASK with a field; an undeclared device, claimed or released (so before 9), or any where none is declared; END with another field than
   -- its index; all 28 bits count
-  pub refusal-6 : (read (0x10000000 ∷ []) ≡ faulty 6 0)
-      × (read (0x10000009 ∷ []) ≡ faulty 6 0)
-      × (read (0x18000001 ∷ []) ≡ faulty 6 0)
-      × (read (0x20000001 ∷ []) ≡ faulty 6 0)
-      × (read (0x28000000 ∷ []) ≡ faulty 6 0)
-      × (read (0x10000001 ∷ 0x20000000 ∷ 0x30000001 ∷ []) ≡ faulty 6 2)
-      × (read (0x10000001 ∷ 0x20000000 ∷ 0x38000000 ∷ []) ≡ faulty 6 2)
-      × (read (0x10000001 ∷ 0x20000000 ∷ 0x40000001 ∷ []) ≡ faulty 6 2)
-      × (read (0x20000000 ∷ 0x30000000 ∷ []) ≡ faulty 6 1)
-      × (read (0x20000000 ∷ 0x50000000 ∷ []) ≡ faulty 6 1)
-      × (read (0x20000000 ∷ 0x50000002 ∷ []) ≡ faulty 6 1)
+  pub refusal-6 : (read (0x10000000 ∷ []) ≡ refused 6 0)
+      × (read (0x10000009 ∷ []) ≡ refused 6 0)
+      × (read (0x18000001 ∷ []) ≡ refused 6 0)
+      × (read (0x20000001 ∷ []) ≡ refused 6 0)
+      × (read (0x28000000 ∷ []) ≡ refused 6 0)
+      × (read (0x10000001 ∷ 0x20000000 ∷ 0x30000001 ∷ []) ≡ refused 6 2)
+      × (read (0x10000001 ∷ 0x20000000 ∷ 0x38000000 ∷ []) ≡ refused 6 2)
+      × (read (0x10000001 ∷ 0x20000000 ∷ 0x40000001 ∷ []) ≡ refused 6 2)
+      × (read (0x20000000 ∷ 0x30000000 ∷ []) ≡ refused 6 1)
+      × (read (0x20000000 ∷ 0x50000000 ∷ []) ≡ refused 6 1)
+      × (read (0x20000000 ∷ 0x50000002 ∷ []) ≡ refused 6 1)
   -- 6 before 7 and before 10
-  pub before-7 : (read (replicate 16 0x10000001 ++ (0x10000009 ∷ [])) ≡ faulty 6 16)
-      × (read (replicate 8 0x20000000 ++ (0x20000001 ∷ [])) ≡ faulty 6 8)
-      × (read (0x10000001 ∷ 0x20000000 ∷ times 127 turnWords (0x30000000 ∷ 0x40000001 ∷ [])) ≡ faulty 6 257)
-      × (read (0x10000001 ∷ 0x20000000 ∷ 0x30000000 ∷ 0x50000004 ∷ []) ≡ faulty 6 3)
-      × (read (0x10000001 ∷ 0x20000000 ∷ 0x30000000 ∷ 0x20000001 ∷ []) ≡ faulty 6 3)
+  pub before-7 : (read (replicate 16 0x10000001 ++ (0x10000009 ∷ [])) ≡ refused 6 16)
+      × (read (replicate 8 0x20000000 ++ (0x20000001 ∷ [])) ≡ refused 6 8)
+      × (read (0x10000001 ∷ 0x20000000 ∷ times 127 turnWords (0x30000000 ∷ 0x40000001 ∷ [])) ≡ refused 6 257)
+      × (read (0x10000001 ∷ 0x20000000 ∷ 0x30000000 ∷ 0x50000004 ∷ []) ≡ refused 6 3)
+      × (read (0x10000001 ∷ 0x20000000 ∷ 0x30000000 ∷ 0x20000001 ∷ []) ≡ refused 6 3)
   -- 7: 17th device, 9th task, 256th action; before 8, 9 and 10
-  pub refusal-7 : (read (replicate 17 0x10000001) ≡ faulty 7 16)
-      × (read (replicate 9 0x20000000) ≡ faulty 7 8)
-      × (read (0x10000001 ∷ 0x20000000 ∷ times 127 turnWords (0x30000000 ∷ 0x40000000 ∷ [])) ≡ faulty 7 257)
-      × (read (0x10000001 ∷ 0x20000000 ∷ times 127 turnWords (0x30000000 ∷ 0x30000000 ∷ [])) ≡ faulty 7 257)
-      × (read (0x10000001 ∷ 0x10000001 ∷ 0x20000000 ∷ times 127 turnWords (0x30000000 ∷ 0x40000001 ∷ [])) ≡ faulty 7 258)
-      × (read (0x10000001 ∷ replicate 8 0x20000000 ++ (0x30000000 ∷ 0x20000000 ∷ [])) ≡ faulty 7 10)
+  pub refusal-7 : (read (replicate 17 0x10000001) ≡ refused 7 16)
+      × (read (replicate 9 0x20000000) ≡ refused 7 8)
+      × (read (0x10000001 ∷ 0x20000000 ∷ times 127 turnWords (0x30000000 ∷ 0x40000000 ∷ [])) ≡ refused 7 257)
+      × (read (0x10000001 ∷ 0x20000000 ∷ times 127 turnWords (0x30000000 ∷ 0x30000000 ∷ [])) ≡ refused 7 257)
+      × (read (0x10000001 ∷ 0x10000001 ∷ 0x20000000 ∷ times 127 turnWords (0x30000000 ∷ 0x40000001 ∷ [])) ≡ refused 7 258)
+      × (read (0x10000001 ∷ replicate 8 0x20000000 ++ (0x30000000 ∷ 0x20000000 ∷ [])) ≡ refused 7 10)
   -- 16 devices and 8 tasks, and 254 actions, are accepted; the 255th action is no 7 (then END is missing), and is still looked at for 9 and for 8
-  pub within-7 : (read (replicate 16 0x10000001 ++ (replicate 8 0x20000000 ++ (0x50000018 ∷ []))) ≡ reads (record { capacities = replicate 16 1; tasks = replicate 8 [] }))
-      × (read (0x10000001 ∷ 0x20000000 ∷ times 127 turnWords (0x50000100 ∷ [])) ≡ reads (record { capacities = 1 ∷ []; tasks = times 127 turn [] ∷ [] }))
-      × (read (0x10000001 ∷ 0x20000000 ∷ times 127 turnWords (0x30000000 ∷ [])) ≡ faulty 11 257)
-      × (read (0x10000001 ∷ 0x20000000 ∷ times 127 turnWords (0x40000000 ∷ [])) ≡ faulty 9 256)
-      × (read (0x10000001 ∷ 0x10000001 ∷ 0x20000000 ∷ 0x30000001 ∷ times 126 turnWords (0x30000000 ∷ 0x30000000 ∷ [])) ≡ faulty 8 257)
+  pub within-7 : (read (replicate 16 0x10000001 ++ (replicate 8 0x20000000 ++ (0x50000018 ∷ []))) ≡ given (record { capacities = replicate 16 1; tasks = replicate 8 [] }))
+      × (read (0x10000001 ∷ 0x20000000 ∷ times 127 turnWords (0x50000100 ∷ [])) ≡ given (record { capacities = 1 ∷ []; tasks = times 127 turn [] ∷ [] }))
+      × (read (0x10000001 ∷ 0x20000000 ∷ times 127 turnWords (0x30000000 ∷ [])) ≡ refused 11 257)
+      × (read (0x10000001 ∷ 0x20000000 ∷ times 127 turnWords (0x40000000 ∷ [])) ≡ refused 9 256)
+      × (read (0x10000001 ∷ 0x10000001 ∷ 0x20000000 ∷ 0x30000001 ∷ times 126 turnWords (0x30000000 ∷ 0x30000000 ∷ [])) ≡ refused 8 257)
   -- 8: claim of a held device; 9: release of one not held, also after its release and while another is held
-  pub refusal-8 : (read (0x10000008 ∷ 0x20000000 ∷ 0x30000000 ∷ 0x30000000 ∷ []) ≡ faulty 8 3)
-      × (read (0x10000001 ∷ 0x10000001 ∷ 0x20000000 ∷ 0x30000000 ∷ 0x30000001 ∷ 0x30000000 ∷ []) ≡ faulty 8 5)
-  pub refusal-9 : (read (0x10000001 ∷ 0x20000000 ∷ 0x40000000 ∷ []) ≡ faulty 9 2)
-      × (read (0x10000001 ∷ 0x20000000 ∷ 0x30000000 ∷ 0x40000000 ∷ 0x40000000 ∷ []) ≡ faulty 9 4)
-      × (read (0x10000001 ∷ 0x10000001 ∷ 0x20000000 ∷ 0x30000000 ∷ 0x40000001 ∷ []) ≡ faulty 9 4)
+  pub refusal-8 : (read (0x10000008 ∷ 0x20000000 ∷ 0x30000000 ∷ 0x30000000 ∷ []) ≡ refused 8 3)
+      × (read (0x10000001 ∷ 0x10000001 ∷ 0x20000000 ∷ 0x30000000 ∷ 0x30000001 ∷ 0x30000000 ∷ []) ≡ refused 8 5)
+  pub refusal-9 : (read (0x10000001 ∷ 0x20000000 ∷ 0x40000000 ∷ []) ≡ refused 9 2)
+      × (read (0x10000001 ∷ 0x20000000 ∷ 0x30000000 ∷ 0x40000000 ∷ 0x40000000 ∷ []) ≡ refused 9 4)
+      × (read (0x10000001 ∷ 0x10000001 ∷ 0x20000000 ∷ 0x30000000 ∷ 0x40000001 ∷ []) ≡ refused 9 4)
   -- 10: TASK or END while something is held, be it the last device
-  pub refusal-10 : (read (0x10000001 ∷ 0x20000000 ∷ 0x30000000 ∷ 0x20000000 ∷ []) ≡ faulty 10 3)
-      × (read (0x10000001 ∷ 0x10000001 ∷ 0x20000000 ∷ 0x30000001 ∷ 0x50000004 ∷ []) ≡ faulty 10 4)
+  pub refusal-10 : (read (0x10000001 ∷ 0x20000000 ∷ 0x30000000 ∷ 0x20000000 ∷ []) ≡ refused 10 3)
+      × (read (0x10000001 ∷ 0x10000001 ∷ 0x20000000 ∷ 0x30000001 ∷ 0x50000004 ∷ []) ≡ refused 10 4)
   -- 11: no END, whatever is held and whatever the grid
-  pub refusal-11 : (read (0x10000001 ∷ []) ≡ faulty 11 1)
-      × (read (0x10000001 ∷ 0x20000000 ∷ 0x30000000 ∷ []) ≡ faulty 11 3)
-      × (read (0x10000001 ∷ 0x20000000 ∷ times 127 turnWords (0x20000000 ∷ times 127 turnWords (0x20000000 ∷ times 1 turnWords []))) ≡ faulty 11 514)
+  pub refusal-11 : (read (0x10000001 ∷ []) ≡ refused 11 1)
+      × (read (0x10000001 ∷ 0x20000000 ∷ 0x30000000 ∷ []) ≡ refused 11 3)
+      × (read (0x10000001 ∷ 0x20000000 ∷ times 127 turnWords (0x20000000 ∷ times 127 turnWords (0x20000000 ∷ times 1 turnWords []))) ≡ refused 11 514)
   -- 12: a grid over 65,536, the smallest that there is (101 · 59 · 11 = 65,549), 255 · 255 · 3, and one that is 64,445 modulo 2^32 (7 · 13 · 13 · 13 · 13 · 21 · 31 · 33)
-  pub refusal-12 : (read (0x10000001 ∷ 0x20000000 ∷ times 50 turnWords (0x20000000 ∷ times 29 turnWords (0x20000000 ∷ times 5 turnWords (0x500000AC ∷ [])))) ≡ faulty 12 172)
-      × (read (0x10000001 ∷ 0x20000000 ∷ times 127 turnWords (0x20000000 ∷ times 127 turnWords (0x20000000 ∷ times 1 turnWords (0x50000202 ∷ [])))) ≡ faulty 12 514)
+  pub refusal-12 : (read (0x10000001 ∷ 0x20000000 ∷ times 50 turnWords (0x20000000 ∷ times 29 turnWords (0x20000000 ∷ times 5 turnWords (0x500000AC ∷ [])))) ≡ refused 12 172)
+      × (read (0x10000001 ∷ 0x20000000 ∷ times 127 turnWords (0x20000000 ∷ times 127 turnWords (0x20000000 ∷ times 1 turnWords (0x50000202 ∷ [])))) ≡ refused 12 514)
       × (read (0x10000001 ∷ 0x20000000 ∷ times 3 turnWords (0x20000000 ∷ times 6 turnWords (0x20000000 ∷ times 6 turnWords (0x20000000 ∷ times 6 turnWords (0x20000000 ∷ times 6 turnWords
-      (0x20000000 ∷ times 10 turnWords (0x20000000 ∷ times 15 turnWords (0x20000000 ∷ times 16 turnWords (0x50000091 ∷ []))))))))) ≡ faulty 12 145)
+      (0x20000000 ∷ times 10 turnWords (0x20000000 ∷ times 15 turnWords (0x20000000 ∷ times 16 turnWords (0x50000091 ∷ []))))))))) ≡ refused 12 145)
   -- the largest grid that there is (71 · 71 · 13 = 65,533) is accepted, and two tasks of 254 actions are (65,025)
   pub within-12 : (read (0x10000001 ∷ 0x20000000 ∷ times 35 turnWords (0x20000000 ∷ times 35 turnWords (0x20000000 ∷ times 6 turnWords (0x5000009C ∷ []))))
-      ≡ reads (record { capacities = 1 ∷ []; tasks = times 35 turn [] ∷ times 35 turn [] ∷ times 6 turn [] ∷ [] }))
+      ≡ given (record { capacities = 1 ∷ []; tasks = times 35 turn [] ∷ times 35 turn [] ∷ times 6 turn [] ∷ [] }))
       × (read (0x10000001 ∷ 0x20000000 ∷ times 127 turnWords (0x20000000 ∷ times 127 turnWords (0x500001FF ∷ [])))
-      ≡ reads (record { capacities = 1 ∷ []; tasks = times 127 turn [] ∷ times 127 turn [] ∷ [] }))
+      ≡ given (record { capacities = 1 ∷ []; tasks = times 127 turn [] ∷ times 127 turn [] ∷ [] }))
   -- the first faulty word counts, not the lowest number: 9 before a later 4
-  pub first-fault : read (0x10000001 ∷ 0x20000000 ∷ 0x40000000 ∷ 0x00000000 ∷ []) ≡ faulty 9 2
+  pub first-fault : read (0x10000001 ∷ 0x20000000 ∷ 0x40000000 ∷ 0x00000000 ∷ []) ≡ refused 9 2

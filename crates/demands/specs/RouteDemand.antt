@@ -5,13 +5,13 @@ use mathlib.Core.Path.{_≡_}
 use mathlib.Core.Bool.{false}
 use mathlib.Core.List.{List, [], _∷_, _++_}
 use lib.ListN.{length, drop}
+use Rattle.model.specs.Answer.{given, refused}
 use Rattle.model.specs.Set.{Set, lengthsOf, at, size}
 use Rattle.model.specs.State.{State, next, sum, rank}
 use Rattle.model.specs.Hold.{permitted}
-use Rattle.model.specs.Read.{reads, read}
-use Rattle.model.specs.Answer.{routed, refused}
+use Rattle.model.specs.Read.{read}
 use Rattle.model.specs.Analysis.{analyse}
-use Rattle.model.specs.Broker.{Record, stateIn}
+use Rattle.model.specs.Record.{Record, stateIn}
 use Rattle.model.specs.Route.{Routed, route}
 use Rattle.demands.specs.MapDemand.{IsOpen, IsUnsafe}
 use Rattle.demands.specs.Calls.{Misplaced, noRoute}
@@ -34,7 +34,7 @@ pub record RouteRight (s : Set) (x : State) (slice : List ℕ) (out : Routed) : 
   -- from an open state, in a slice with room: one byte for each action left, and beyond them the slice keeps its bytes
   pub arrives : IsOpen s x → actionsLeft s x ≤ length slice
       → (steps : List ℕ) × Arrives s x steps × (length steps ≡ actionsLeft s x)
-      × (out ≡ record { answer = routed (length steps); route = steps ++ drop (length steps) slice })
+      × (out ≡ record { answer = given (length steps); route = steps ++ drop (length steps) slice })
   -- a shorter slice is refused with the length needed
   pub too-short : IsOpen s x → length slice < actionsLeft s x → out ≡ noRoute 21 (actionsLeft s x) slice
   -- an unsafe state has no route, and 20 is said of unsafe states only
@@ -46,6 +46,6 @@ pub record RouteRight (s : Set) (x : State) (slice : List ℕ) (out : Routed) : 
 -- the route's demand
 pub record RouteDemand : Type 0 where
   -- for all words that read as a set and a map slice with room for its map, as the analysis leaves it, and every record whose eight positions are in place
-  pub routes : (words map plan : List ℕ) (s : Set) → read words ≡ reads s → size (lengthsOf s) ≤ length map
+  pub routes : (words map plan : List ℕ) (s : Set) → read words ≡ given s → size (lengthsOf s) ≤ length map
       → (r : Record) → length (r .positions) ≡ 8 → (Misplaced s r → ⊥) → (slice : List ℕ)
       → RouteRight s (stateIn s r) slice (route words (analyse words map plan .map) r slice)

@@ -7,7 +7,8 @@ use lib.ListN.{length, getD}
 use lib.Dec.{eqb}
 use Rattle.model.specs.Set.{Set, lengthsOf, size}
 use Rattle.model.specs.Layout.{encode}
-use Rattle.model.specs.Read.{reads, faulty, read}
+use Rattle.model.specs.Answer.{given, refused}
+use Rattle.model.specs.Read.{read}
 use Rattle.demands.specs.Terms.{howMany}
 
 module _ (ws : List ℕ) where
@@ -73,12 +74,12 @@ module _ (ws : List ℕ) where
 
 pub record Turned : Type 0 where
   -- before words: none, or over 4,096
-  pub no-words : read [] ≡ faulty 1 0
-  pub too-many : (ws : List ℕ) → 4096 < length ws → read ws ≡ faulty 2 4096
+  pub no-words : read [] ≡ refused 1 0
+  pub too-many : (ws : List ℕ) → 4096 < length ws → read ws ≡ refused 2 4096
   -- within the limit, each list has a first faulty word or none at all; the first one counts, with the lowest of its numbers
   pub cases : (ws : List ℕ) → length ws ≤ 4096 → Clean ws (length ws) ⊎ ((i n : ℕ) × FirstFault ws i n)
-  pub first-word : (ws : List ℕ) (i n : ℕ) → length ws ≤ 4096 → FirstFault ws i n → read ws ≡ faulty n i
+  pub first-word : (ws : List ℕ) (i n : ℕ) → length ws ≤ 4096 → FirstFault ws i n → read ws ≡ refused n i
   -- after words without a fault: 11 where no END came; else they are the words of a set, which is accepted unless its grid is too large
-  pub no-end : (ws : List ℕ) → 0 < length ws → length ws ≤ 4096 → Clean ws (length ws) → (Came ws (length ws) 5 → ⊥) → read ws ≡ faulty 11 (length ws)
+  pub no-end : (ws : List ℕ) → 0 < length ws → length ws ≤ 4096 → Clean ws (length ws) → (Came ws (length ws) 5 → ⊥) → read ws ≡ refused 11 (length ws)
   pub with-end : (ws : List ℕ) → length ws ≤ 4096 → Clean ws (length ws) → Came ws (length ws) 5
-      → (s : Set) × (ws ≡ encode s) × (size (lengthsOf s) ≤ 65536 → read ws ≡ reads s) × (65536 < size (lengthsOf s) → read ws ≡ faulty 12 (length ws - 1))
+      → (s : Set) × (ws ≡ encode s) × (size (lengthsOf s) ≤ 65536 → read ws ≡ given s) × (65536 < size (lengthsOf s) → read ws ≡ refused 12 (length ws - 1))

@@ -15,25 +15,12 @@ use Rattle.model.specs.Box.{Box}
 use Rattle.model.specs.Forbidden.{TaskSet, choose, prefixed, sidesOf, boxesOf, boxesOfAll, deviceBoxes}
 use Rattle.model.specs.TaskTable.{table, setOfMask, setsIn}
 use Rattle.model.specs.Plan.{FORBIDDEN-BOX, sideWord, sideWords, forbiddenWords}
-use Rattle.model.proofs.Tests.{by-test}
+use Rattle.model.proofs.Bools.{by-bool}
 use Rattle.model.proofs.TableOrder.{table-length, table-choose}
 use Rattle.plan_words.specs.Words.{upTo}
-use Rattle.forbidden_boxes.specs.Rows.{nth, Row}
+use Rattle.plan_words.proofs.UpTo.{each-below}
+use Rattle.forbidden_boxes.specs.Rows.{ROW, WHOLE, nth, Row}
 use Rattle.forbidden_boxes.specs.Choices.{sideCount, firstSide, choiceWords, setWords, tableWords}
-
--- numbers that give what a list's members do, counted from k
-each-from : {A : Type 0} (x₀ : A) (g : A → List ℕ) (xs : List A) (f : ℕ → List ℕ) (k : ℕ) → ((i : ℕ) → i < length xs → f (k + i) ≡ g (getD xs i x₀))
-    → upTo (length xs) k f ≡ flatMap g xs
-unfolding upTo flatMap
-each-from x₀ g [] f k h = refl
-each-from x₀ g (x ∷ xs) f k h =
-    let z : k + 0 ≡ k = omega arith in
-    ap₂ _++_ (rw z at (h 0 (omega arith)))
-    (each-from x₀ g xs f (k + 1) (λ i l. let s : k + 1 + i ≡ k + suc i = omega arith in rw s (h (suc i) (omega arith))))
-
-each-below : {A : Type 0} (x₀ : A) (g : A → List ℕ) (xs : List A) (f : ℕ → List ℕ) → ((i : ℕ) → i < length xs → f i ≡ g (getD xs i x₀))
-    → upTo (length xs) 0 f ≡ flatMap g xs
-each-below x₀ g xs f h = each-from x₀ g xs f 0 (λ i l. let z : 0 + i ≡ i = omega arith in rw z (h i l))
 
 -- the words of boxes over the tasks from t on, each after a header and the sides of the tasks before
 pub boxWords : ℕ → List ℕ → ℕ → List Box → List ℕ
@@ -61,35 +48,35 @@ box-sides hd before t [] bs = refl
 box-sides hd before t (i ∷ is) bs =
     box-append hd before t (map (λ b. i ∷ b) bs) (prefixed is bs) ∙ ap₂ _++_ (box-side hd before t i bs) (box-sides hd before t is bs)
 
-module _ (rows counts : List ℕ) (d : ℕ) where
+module _ (rows holds : List ℕ) (d : ℕ) where
   -- the sides that a row gives are those of the task, in the set or not
   record RowSides (t m : ℕ) (task : Task) : Type 0 where
-    count : sideCount counts t m ≡ length (sidesOf d (eqb (m % 2) 1) task)
+    count : sideCount holds t m ≡ length (sidesOf d (eqb (m % 2) 1) task)
     sides : (i : ℕ) → i < length (sidesOf d (eqb (m % 2) 1) task) → at rows (firstSide t m + i) ≡ sideWord t (nth (sidesOf d (eqb (m % 2) 1) task) i)
 
-  row-sides : (t m : ℕ) (task : Task) → Row d t task (at counts t) rows → RowSides t m task
+  row-sides : (t m : ℕ) (task : Task) → Row d t task (at holds t) rows → RowSides t m task
   unfolding sideCount firstSide sidesOf
   row-sides t m task r =
-      by-test (eqb (m % 2) 1)
+      by-bool (eqb (m % 2) 1)
       (λ e. record {
         count = rw e (r .listed .count);
         sides = rw e (λ i h. r .listed .sides i (omega (arith, r .listed .count)));
       })
       (λ e. record { count = rw e; sides = rw e (λ i h. last i (omega arith)) })
     where
-      last : (i : ℕ) → i < 1 → at rows (t * 128 + 127 + i) ≡ sideWord t (nth (record { low = 0; high = length task } ∷ []) i)
-      last zero h = let z : t * 128 + 127 + 0 ≡ t * 128 + 127 = omega arith in rw z (r .whole)
+      last : (i : ℕ) → i < 1 → at rows (t * ROW + WHOLE + i) ≡ sideWord t (nth (record { low = 0; high = length task } ∷ []) i)
+      last zero h = let z : t * ROW + WHOLE + 0 ≡ t * ROW + WHOLE = omega arith in rw z (r .whole)
       last (suc i) h = absurd (omega arith)
 
   -- the rows of these tasks, from task t on
   abbrev pub RowsFrom : ℕ → List Task → Type 0
-  RowsFrom t tasks = (i : ℕ) → i < length tasks → Row d (t + i) (getD tasks i []) (at counts (t + i)) rows
+  RowsFrom t tasks = (i : ℕ) → i < length tasks → Row d (t + i) (getD tasks i []) (at holds (t + i)) rows
 
   pub rows-next : (t : ℕ) (task : Task) (tasks : List Task) → RowsFrom t (task ∷ tasks) → RowsFrom (t + 1) tasks
   rows-next t task tasks r i h = let e : t + 1 + i ≡ t + suc i = omega arith in rw e (r (suc i) (omega arith))
 
   choices-boxes : (hd t m : ℕ) (before : List ℕ) (tasks : List Task) → RowsFrom t tasks
-      → choiceWords rows counts hd (length tasks) t m before ≡ boxWords hd before t (boxesOf d (setOfMask (length tasks) m) tasks)
+      → choiceWords rows holds hd (length tasks) t m before ≡ boxWords hd before t (boxesOf d (setOfMask (length tasks) m) tasks)
   unfolding choiceWords boxWords boxesOf setOfMask sideWords
   choices-boxes hd t m before [] r = rw (append-nil before, append-nil before)
   choices-boxes hd t m before (task ∷ tasks) r =
@@ -101,19 +88,19 @@ module _ (rows counts : List ℕ) (d : ℕ) where
       (each-below (record { low = 0; high = 0 }) (λ i. boxWords hd (before ++ (sideWord t i ∷ [])) (suc t) bs) is _
       (λ i l.
       let more = before ++ (sideWord t (nth is i) ∷ []) in
-      ap (λ (v : ℕ). choiceWords rows counts hd (length tasks) (t + 1) (m / 2) (before ++ (v ∷ []))) (s .sides i l)
+      ap (λ (v : ℕ). choiceWords rows holds hd (length tasks) (t + 1) (m / 2) (before ++ (v ∷ []))) (s .sides i l)
       ∙ choices-boxes hd (t + 1) (m / 2) more tasks (rows-next t task tasks r)
       ∙ ap (λ (u : ℕ). boxWords hd more u bs) (add-one t))
       ∙ sym (box-sides hd before t is bs))
 
   -- the masks of a list, of s + 1 tasks each
   sets-boxes : (hd s : ℕ) (tasks : List Task) → RowsFrom 0 tasks → (ms : List ℕ)
-      → flatMap (setWords rows counts hd (length tasks) s) ms ≡ boxWords hd [] 0 (boxesOfAll d (setsIn (suc s) (length tasks) ms) tasks)
+      → flatMap (setWords rows holds hd (length tasks) s) ms ≡ boxWords hd [] 0 (boxesOfAll d (setsIn (suc s) (length tasks) ms) tasks)
   unfolding flatMap setWords setsIn boxesOfAll boxWords
   sets-boxes hd s tasks r [] = refl
   sets-boxes hd s tasks r (m ∷ ms) =
       rw (add-one s)
-      (by-test (ltb m (2 ^ length tasks) && eqb (ones m) (suc s))
+      (by-bool (ltb m (2 ^ length tasks) && eqb (ones m) (suc s))
       (λ e.
       rw e
       (ap₂ _++_ (choices-boxes hd 0 m [] tasks r) (sets-boxes hd s tasks r ms)
@@ -122,11 +109,11 @@ module _ (rows counts : List ℕ) (d : ℕ) where
 
   -- the whole table, for tasks that can exceed the capacity or not
   pub table-boxes : (hd s : ℕ) (tasks : List Task) → RowsFrom 0 tasks → s < 9 → length tasks < 9
-      → tableWords rows counts hd (length tasks) s ≡ boxWords hd [] 0 (deviceBoxes d s tasks)
+      → tableWords rows holds hd (length tasks) s ≡ boxWords hd [] 0 (deviceBoxes d s tasks)
   unfolding tableWords deviceBoxes
   table-boxes hd s tasks r hs hn =
-      ap (λ (k : ℕ). upTo k 0 (λ k. setWords rows counts hd (length tasks) s (at table k))) (sym table-length)
-      ∙ each-below 0 (setWords rows counts hd (length tasks) s) table (λ k. setWords rows counts hd (length tasks) s (at table k)) (λ i l. refl)
+      ap (λ (k : ℕ). upTo k 0 (λ k. setWords rows holds hd (length tasks) s (at table k))) (sym table-length)
+      ∙ each-below 0 (setWords rows holds hd (length tasks) s) table (λ k. setWords rows holds hd (length tasks) s (at table k)) (λ i l. refl)
       ∙ sets-boxes hd s tasks r table
       ∙ ap (λ (cs : List TaskSet). boxWords hd [] 0 (boxesOfAll d cs tasks)) (table-choose s (length tasks) hs hn)
 

@@ -9,7 +9,7 @@ use lib.Dec.{eqb}
 use borrow.Author.Tests.{eq-eqb, ne-eqb, not-true}
 use Rattle.model.specs.Set.{Action, claim, release, deviceOf, Task, balanced}
 use Rattle.model.specs.Hold.{Interval, heldTo, holdsFrom}
-use Rattle.model.proofs.Tests.{by-test, true-not-false, and-true}
+use Rattle.model.proofs.Bools.{by-bool, true-not-false, and-true}
 
 -- the holds that close after position p: the one open since `low`, if device d is held, and those to come
 unfoldable pub toClose : ℕ → Bool → ℕ → ℕ → Task → List Interval
@@ -31,11 +31,11 @@ module _ (d low p : ℕ) (h : Bool) (rest : Task) where
       record { was = n; balance = r .1; same = rw (n, e) }
 
   -- a release of d: it was held, and that hold is over the positions to p
-  pub record Closes : Type 0 where
+  pub record HoldCloses : Type 0 where
     pub balance : balanced d false rest ≡ true
     pub same : toClose d h low p (release d ∷ rest) ≡ record { low = low; high = p } ∷ toClose d false low (suc p) rest
 
-  pub closes : balanced d h (release d ∷ rest) ≡ true → Closes
+  pub closes : balanced d h (release d ∷ rest) ≡ true → HoldCloses
   unfolding balanced toClose holdsFrom heldTo
   closes b =
       let e : eqb d d ≡ true = eq-eqb d d refl in
@@ -43,11 +43,11 @@ module _ (d low p : ℕ) (h : Bool) (rest : Task) where
       record { balance = r .1; same = rw (r .0, e) }
 
   -- an action on another device
-  pub record Passes (a : Action) : Type 0 where
+  pub record HoldPasses (a : Action) : Type 0 where
     pub balance : balanced d h rest ≡ true
     pub same : toClose d h low p (a ∷ rest) ≡ toClose d h low (suc p) rest
 
-  pub passes : (a : Action) → (deviceOf a ≡ d → ⊥) → balanced d h (a ∷ rest) ≡ true → Passes a
+  pub passes : (a : Action) → (deviceOf a ≡ d → ⊥) → balanced d h (a ∷ rest) ≡ true → HoldPasses a
   unfolding balanced toClose holdsFrom heldTo deviceOf
   passes (claim e) n b = let k : eqb e d ≡ false = ne-eqb e d n in record { balance = rw k at b; same = rw k }
   passes (release e) n b = let k : eqb e d ≡ false = ne-eqb e d n in record { balance = rw k at b; same = rw k }
@@ -58,14 +58,14 @@ unfolding balanced holdsFrom
 holds-count d p true [] b = true-not-false false b refl
 holds-count d p false [] b = omega arith
 holds-count d p h (claim e ∷ rest) b =
-    by-test (eqb e d)
+    by-bool (eqb e d)
     (λ k.
     let r = and-true (not h) (balanced d true rest) (rw k at b) in
     let n : h ≡ false = not-true h (r .0) in
     rw (k, n) (omega (arith, holds-count d (suc p) true rest (r .1))))
     (λ k. rw k (omega (arith, holds-count d (suc p) h rest (rw k at b))))
 holds-count d p h (release e ∷ rest) b =
-    by-test (eqb e d)
+    by-bool (eqb e d)
     (λ k.
     let r = and-true h (balanced d false rest) (rw k at b) in
     rw (r .0) (omega (arith, holds-count d (suc p) false rest (r .1))))

@@ -1,6 +1,7 @@
 pub mod Holds
 pub mod Gather
-pub mod Sides
+pub mod Made
+pub mod Chosen
 pub mod Boxes
 pub mod Claims
 pub mod Declared

@@ -10,30 +10,31 @@ use Rattle.model.specs.Forbidden.{deviceBoxes}
 use Rattle.model.specs.TaskTable.{table}
 use Rattle.model.specs.Plan.{forbiddenWords}
 use Rattle.plan_words.specs.Words.{upTo}
+use Rattle.forbidden_boxes.specs.Rows.{ROW, WHOLE}
 
 -- how many of the n tasks from t on have holds
 unfoldable pub claimersFrom : ℕ → ℕ → List ℕ → ℕ
-claimersFrom t zero counts = 0
-claimersFrom t (suc n) counts = cond (eqb (at counts t) 0) 0 1 + claimersFrom (t + 1) n counts
+claimersFrom t zero holds = 0
+claimersFrom t (suc n) holds = cond (eqb (at holds t) 0) 0 1 + claimersFrom (t + 1) n holds
 
 -- a box for each of `count` holds of task t, the other sides of the n tasks as given
 unfoldable pub holdWords : List ℕ → ℕ → ℕ → ℕ → List ℕ → ℕ → List ℕ
-holdWords rows header n t sides count = upTo count 0 (λ i. header ∷ take n (set sides t (at rows (t * 128 + i))))
+holdWords rows header n t sides count = upTo count 0 (λ i. header ∷ take n (set sides t (at rows (t * ROW + i))))
 
 -- task t is in the set, by the mask's lowest bit: one side for each of its holds, from its row's front; else one, at its row's end
 unfoldable pub sideCount : List ℕ → ℕ → ℕ → ℕ
-sideCount counts t m = cond (eqb (m % 2) 1) (at counts t) 1
+sideCount holds t m = cond (eqb (m % 2) 1) (at holds t) 1
 
 -- where the first of them stands
 unfoldable pub firstSide : ℕ → ℕ → ℕ
-firstSide t m = cond (eqb (m % 2) 1) (t * 128) (t * 128 + 127)
+firstSide t m = cond (eqb (m % 2) 1) (t * ROW) (t * ROW + WHOLE)
 
-module _ (rows counts : List ℕ) (header : ℕ) where
+module _ (rows holds : List ℕ) (header : ℕ) where
   -- each choice of one side a task, over n tasks from t on, after the sides of the tasks before
   unfoldable pub choiceWords : ℕ → ℕ → ℕ → List ℕ → List ℕ
   choiceWords zero t m before = header ∷ before
   choiceWords (suc n) t m before =
-      upTo (sideCount counts t m) 0 (λ i. choiceWords n (t + 1) (m / 2) (before ++ (at rows (firstSide t m + i) ∷ [])))
+      upTo (sideCount holds t m) 0 (λ i. choiceWords n (t + 1) (m / 2) (before ++ (at rows (firstSide t m + i) ∷ [])))
 
   -- of one mask of the table: nothing if it has an absent task or has not one task more than the capacity s
   unfoldable pub setWords : ℕ → ℕ → ℕ → List ℕ

@@ -7,7 +7,7 @@ use native.Mathlib.Numerals.{add-one}
 use native.Mathlib.Omega.{arith, min-cases}
 use lib.ListN.{length, take, drop, getD, set, length-append, length-drop}
 use lib.Seq.{length-take-le, take-all, take-suc, drop-cons, drop-length, append-snoc, set-at, take-append-le, take-length}
-use Rattle.model.specs.Analysis.{over}
+use Rattle.model.specs.Slice.{over}
 
 -- a turn: k elements of s are at the front of d, and the next is stored behind them
 pub front-suc : (s d : List ℕ) (k : ℕ) → k < length s → k < length d → set (take k s ++ drop k d) k (getD s k 0) ≡ take (k + 1) s ++ drop (k + 1) d

@@ -1,12 +1,12 @@
 -- A set's words out of a file's bytes (document 01, "Dead states, plan, route, print"; refusals 2 and 15).
 use Prim.Native.Nat.{ℕ, _+_, _*_, _/_, _%_}
 use mathlib.Core.Bool.{not, cond}
-use mathlib.Core.List.{List}
+use mathlib.Core.List.{List, [], _∷_}
 use lib.ListN.{length, take}
 use lib.Dec.{ltb, eqb}
-use Rattle.model.specs.Test.{tabulate}
+use Rattle.model.specs.Below.{tabulate}
 use Rattle.model.specs.Set.{at}
-use Rattle.model.specs.Analysis.{over}
+use Rattle.model.specs.Slice.{over}
 use Rattle.listing.specs.declared.Decoded.{Decoded}
 use Rattle.listing.specs.declared.Decoded.the-variants.{Words, Refused}
 
@@ -17,6 +17,10 @@ wordAt bs k = at bs (k * 4) + at bs (k * 4 + 1) * 0x100 + at bs (k * 4 + 2) * 0x
 -- all whole words
 abbrev pub wordsIn : List ℕ → List ℕ
 wordsIn bs = tabulate (length bs / 4) (wordAt bs)
+
+-- a word's bytes, lowest first
+abbrev pub bytesOf : ℕ → List ℕ
+bytesOf w = w % 0x100 ∷ w / 0x100 % 0x100 ∷ w / 0x10000 % 0x100 ∷ w / 0x1000000 ∷ []
 
 -- 2: over 16,384 bytes; 15: bytes not a multiple of 4, at the number of whole words
 unfoldable pub decoded : List ℕ → Decoded

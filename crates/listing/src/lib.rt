@@ -1,17 +1,29 @@
-// Words out of a file's bytes, and words as lines of text.
+// Words out of a file's bytes, their bytes again, and words as lines of text.
 ghost use mathlib.Core.Path.{_≡_};
 ghost use Prim.Native.Nat.{_+_, _-_, _/_, _≤_, _<_, min};
 ghost use lib.ListN.{length, take, drop};
 ghost use lib.Seq.{paste};
-ghost use Rattle.model.specs.Analysis.{over};
-ghost use Rattle.listing.specs.Words.{wordAt, wordsIn, decoded, wordsAfter};
+ghost use Rattle.model.specs.Slice.{over};
+ghost use Rattle.listing.specs.Words.{wordAt, wordsIn, bytesOf, decoded, wordsAfter};
 ghost use Rattle.listing.specs.Lines.{hexDigit, hexLine, linesOf, fitting};
 
-// A set's file has at most this many bytes.
-pub const MAX_BYTES: usize = 16384;
+// A word's bytes.
+pub const WORD_BYTES: usize = 4;
 
-// The bytes of a line: eight digits and a line feed.
-pub const LINE: usize = 9;
+// A set's file has at most this many bytes.
+pub const MAX_BYTES: usize = model::MAX_WORDS * WORD_BYTES;
+
+// A word's digits.
+pub const DIGITS: usize = 8;
+
+// The bytes of a line: the digits and a line feed.
+pub const LINE: usize = DIGITS + 1;
+
+// The base of the digits.
+const BASE: u32 = 16;
+
+// The first digit that is a letter.
+const FIRST_LETTER: u8 = 10;
 
 pub enum Decoded {
     Words(usize),
@@ -29,21 +41,21 @@ pub fn decode(bytes: &[u8], words: &mut [u32]) -> Decoded
             place: model::MAX_WORDS,
         };
     }
-    if bytes.len() % 4 != 0 {
+    if bytes.len() % WORD_BYTES != 0 {
         return Decoded::Refused {
             number: model::BYTES_NOT_WORDS,
-            place: bytes.len() / 4,
+            place: bytes.len() / WORD_BYTES,
         };
     }
     fill_words(bytes, words);
-    Decoded::Words(bytes.len() / 4)
+    Decoded::Words(bytes.len() / WORD_BYTES)
 }
 
 // The whole words of the bytes, as many as there is room for.
 pub fn fill_words(bytes: &[u8], words: &mut [u32])
     ensures { λ _. ⌜ now (words .exit) ≡ take (length (now (words .entry))) (over (wordsIn (now (bytes .entry))) (now (words .entry))) ⌝ }
 {
-    let count = least(bytes.len() / 4, words.len());
+    let count = least(bytes.len() / WORD_BYTES, words.len());
     let mut k = 0;
     while k < count {
         words[k] = word_at(bytes, k);
@@ -51,15 +63,15 @@ pub fn fill_words(bytes: &[u8], words: &mut [u32])
     }
 }
 
-// The k-th word of the bytes.
+// The k-th word of the bytes: each byte weighs 0x100 times the one before it.
 fn word_at(bytes: &[u8], k: usize) -> u32
     requires { ⌜ k < length (now bytes) / 4 ⌝ }
     ensures { λ r. ⌜ r ≡ wordAt (now (bytes .entry)) k ⌝ }
 {
-    wide(bytes[k * 4])
-        + wide(bytes[k * 4 + 1]) * 0x100
-        + wide(bytes[k * 4 + 2]) * 0x10000
-        + wide(bytes[k * 4 + 3]) * 0x100_0000
+    wide(bytes[k * WORD_BYTES])
+        + wide(bytes[k * WORD_BYTES + 1]) * 0x100
+        + wide(bytes[k * WORD_BYTES + 2]) * 0x10000
+        + wide(bytes[k * WORD_BYTES + 3]) * 0x100_0000
 }
 
 fn wide(b: u8) -> u32
@@ -69,12 +81,24 @@ fn wide(b: u8) -> u32
     b as u32
 }
 
+// A word's bytes, lowest first.
+pub fn word_bytes(word: u32) -> [u8; WORD_BYTES]
+    ensures { λ r. ⌜ r ≡ bytesOf word ⌝ }
+{
+    [
+        (word % 0x100) as u8,
+        (word / 0x100 % 0x100) as u8,
+        (word / 0x10000 % 0x100) as u8,
+        (word / 0x100_0000) as u8,
+    ]
+}
+
 // Puts the lines of the words from index `from` on at the start of `out`, as many as there is room for, and answers how many.
 pub fn fill_lines(words: &[u32], from: usize, out: &mut [u8]) -> usize
     ensures { λ r. ⌜ r ≡ fitting (length (now (words .entry))) from (length (now (out .entry))) ⌝ }
     ensures { λ r. ⌜ now (out .exit) ≡ over (linesOf (take r (drop from (now (words .entry))))) (now (out .entry)) ⌝ }
 {
-    let count = least(left(words.len(), from), out.len() / LINE);
+    let count = least(count_from(words.len(), from), out.len() / LINE);
     let mut k = 0;
     while k < count {
         put_line(words[from + k], out, k * LINE);
@@ -96,42 +120,45 @@ fn put_line(word: u32, out: &mut [u8], to: usize)
     }
 }
 
-// A word's eight digits and a line feed.
-pub fn hex_line(word: u32) -> [u8; 9]
+// A word's digits, the highest first, and a line feed.
+pub fn hex_line(word: u32) -> [u8; LINE]
     ensures { λ r. ⌜ r ≡ hexLine word ⌝ }
 {
     [
-        hex_digit(word / 0x1000_0000 % 16),
-        hex_digit(word / 0x100_0000 % 16),
-        hex_digit(word / 0x10_0000 % 16),
-        hex_digit(word / 0x1_0000 % 16),
-        hex_digit(word / 0x1000 % 16),
-        hex_digit(word / 0x100 % 16),
-        hex_digit(word / 0x10 % 16),
-        hex_digit(word % 16),
-        10,
+        hex_digit(word / 0x1000_0000 % BASE),
+        hex_digit(word / 0x100_0000 % BASE),
+        hex_digit(word / 0x10_0000 % BASE),
+        hex_digit(word / 0x1_0000 % BASE),
+        hex_digit(word / 0x1000 % BASE),
+        hex_digit(word / 0x100 % BASE),
+        hex_digit(word / 0x10 % BASE),
+        hex_digit(word % BASE),
+        b'\n',
     ]
 }
 
+// A digit's character.
 fn hex_digit(n: u32) -> u8
     requires { ⌜ n < 16 ⌝ }
     ensures { λ r. ⌜ r ≡ hexDigit n ⌝ }
 {
-    if n < 10 {
-        48 + (n as u8)
+    let digit = n as u8;
+    if digit < FIRST_LETTER {
+        b'0' + digit
     } else {
-        65 + (n as u8 - 10)
+        b'A' + (digit - FIRST_LETTER)
     }
 }
 
-fn least(a: usize, b: usize) -> usize
+// The smaller of two numbers.
+pub fn least(a: usize, b: usize) -> usize
     ensures { λ r. ⌜ r ≡ min a b ⌝ }
 {
     if a < b { a } else { b }
 }
 
 // How many of `count` come from index `from` on.
-fn left(count: usize, from: usize) -> usize
+fn count_from(count: usize, from: usize) -> usize
     ensures { λ r. ⌜ r ≡ count - from ⌝ }
 {
     if from < count { count - from } else { 0 }

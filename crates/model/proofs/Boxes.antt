@@ -12,7 +12,7 @@ use Rattle.model.specs.Set.{at}
 use Rattle.model.specs.State.{State, next}
 use Rattle.model.specs.Hold.{Interval, within}
 use Rattle.model.specs.Box.{inside, Box, side, covered, firstBox}
-use Rattle.model.proofs.Tests.{by-test, true-not-false, and-true, or-right}
+use Rattle.model.proofs.Bools.{by-bool, true-not-false, and-true, or-right}
 use Rattle.model.proofs.States.{at-next-same, at-next-other}
 
 abbrev pub Within : Interval → ℕ → Type 0
@@ -54,7 +54,7 @@ pub inside-next : (b : Box) (x : State) (t : ℕ) → length b ≡ length x → 
     → ((j : ℕ) → j < length x → (j ≡ t → ⊥) → Within (side b j) (at x j)) → inside b (next x t) ≡ true
 inside-next b x t n h w f =
     inside-intro b (next x t) (n ∙ sym (length-set x t (suc (at x t)))) λ j l.
-    by-test (eqb j t)
+    by-bool (eqb j t)
     (λ q. rw (eqb-true j t q, at-next-same x t h) w)
     (λ q. rw (at-next-other x t j (eqb-false j t q)) (f j (rw length-set at l) (eqb-false j t q)))
 
@@ -63,13 +63,13 @@ pub first-holds : (bs : List Box) (x : State) → covered bs x ≡ true → insi
 unfolding covered firstBox
 first-holds [] x e = true-not-false false e refl
 first-holds (b ∷ bs) x e =
-    by-test (inside b x) (λ h. rw h h) (λ h. rw h (first-holds bs x (rw h at e)))
+    by-bool (inside b x) (λ h. rw h h) (λ h. rw h (first-holds bs x (rw h at e)))
 
 pub first-covers : (bs : List Box) (x y : State) → covered bs x ≡ true → inside (firstBox bs x) y ≡ true → covered bs y ≡ true
 unfolding covered firstBox
 first-covers [] x y e h = true-not-false false e refl
 first-covers (b ∷ bs) x y e h =
-    by-test (inside b x) (λ k. rw (rw k at h)) (λ k. or-right (inside b y) (covered bs y) (first-covers bs x y (rw k at e) (rw k at h)))
+    by-bool (inside b x) (λ k. rw (rw k at h)) (λ k. or-right (inside b y) (covered bs y) (first-covers bs x y (rw k at e) (rw k at h)))
 
 pub covered-append : (cs bs : List Box) (x : State) → covered (cs ++ bs) x ≡ (covered cs x || covered bs x)
 unfolding covered

@@ -8,8 +8,10 @@ use lib.Dec.{eqb, ltb, leb}
 use borrow.Author.Tests.{ltb-false, leb-true, eqb-true, eqb-false, not-false}
 use Rattle.model.specs.Set.{Task, Set}
 use Rattle.model.specs.Layout.{word, kindOf, fieldOf, DEVICE, TASK, CLAIM, RELEASE, END}
-use Rattle.model.specs.Read.{Scan, note, holdsNow, holdsSome, outOfOrder, fieldAllowed, tooMany, fault, Reading, reads, faulty, readFrom}
-use Rattle.model.proofs.Tests.{by-test, and-true}
+use Rattle.model.specs.Answer.{given, refused}
+use Rattle.model.specs.Read.{Scan, note, holdsNow, holdsSome, outOfOrder, fieldAllowed, tooMany, fault, Reading, readFrom}
+use Rattle.model.proofs.Bools.{by-bool, and-true}
+use Rattle.model.proofs.Answers.{refused-given}
 use Rattle.model.proofs.Words.{setWith, kind-word, field-word, word-parts}
 
 -- the words of a set were read, and no END
@@ -65,24 +67,24 @@ unfolding readFrom
 read-word s i k f ws h p = rw (kind-word k f h, field-word k f h, passes-fault s i k f p)
 
 -- ---- words that are accepted
-pub not-faulty : (b : Bool) (n p : ℕ) (x : Reading) (r : Set) → cond b (faulty n p) x ≡ reads r → (b ≡ false) × (x ≡ reads r)
-not-faulty true n p x r e = absurd (let z : _≡_ {A = ℕ} 0 1 = cc in omega arith)
-not-faulty false n p x r e = (refl, e)
+pub not-refused : (b : Bool) (n p : ℕ) (x : Reading) (r : Set) → cond b (refused n p) x ≡ given r → (b ≡ false) × (x ≡ given r)
+not-refused true n p x r e = refused-given e
+not-refused false n p x r e = (refl, e)
 
 -- the word w at index i, of kind k and field f, passes, and the words after it are accepted with the set r
 pub record WordRead (s : Scan) (i w : ℕ) (ws : List ℕ) (r : Set) (k f : ℕ) : Type 0 where
   pub made : w ≡ word k f
   pub passes : Passes s i k f
-  pub after : readFrom (note s k f) (suc i) ws ≡ reads r
+  pub after : readFrom (note s k f) (suc i) ws ≡ given r
 
-module _ (s : Scan) (i w : ℕ) (ws : List ℕ) (r : Set) (e : readFrom s i (w ∷ ws) ≡ reads r) where
+module _ (s : Scan) (i w : ℕ) (ws : List ℕ) (r : Set) (e : readFrom s i (w ∷ ws) ≡ given r) where
   pub word-reads : WordRead s i w ws r (kindOf w) (fieldOf w)
   unfolding readFrom
   word-reads =
       let k = kindOf w in
       let f = fieldOf w in
       let n = fault s i k f in
-      let p = not-faulty (ltb 0 n) n i (readFrom (note s k f) (suc i) ws) r e in
+      let p = not-refused (ltb 0 n) n i (readFrom (note s k f) (suc i) ws) r e in
       let none = ltb-false 0 n (p .0) in
       record { made = word-parts w; passes = fault-passes s i k f (omega arith); after = p .1 }
 
@@ -96,9 +98,9 @@ module _ (s : Scan) (i w : ℕ) (ws : List ℕ) (r : Set) (e : readFrom s i (w �
       let range = and-true (leb 1 k) (leb k 5) (x .passes .kind) in
       let low = leb-true 1 k (range .0) in
       let high = leb-true k 5 (range .1) in
-      by-test (eqb k DEVICE) (λ t. device f (rw (eqb-true k DEVICE t) at x)) λ n₁.
-      by-test (eqb k TASK) (λ t. task f (rw (eqb-true k TASK t) at x)) λ n₂.
-      by-test (eqb k CLAIM) (λ t. claim f (rw (eqb-true k CLAIM t) at x)) λ n₃.
-      by-test (eqb k RELEASE) (λ t. release f (rw (eqb-true k RELEASE t) at x)) λ n₄.
+      by-bool (eqb k DEVICE) (λ t. device f (rw (eqb-true k DEVICE t) at x)) λ n₁.
+      by-bool (eqb k TASK) (λ t. task f (rw (eqb-true k TASK t) at x)) λ n₂.
+      by-bool (eqb k CLAIM) (λ t. claim f (rw (eqb-true k CLAIM t) at x)) λ n₃.
+      by-bool (eqb k RELEASE) (λ t. release f (rw (eqb-true k RELEASE t) at x)) λ n₄.
       let last : k ≡ END = omega (arith, eqb-false k DEVICE n₁, eqb-false k TASK n₂, eqb-false k CLAIM n₃, eqb-false k RELEASE n₄) in
       end f (rw last at x)

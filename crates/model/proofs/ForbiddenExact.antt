@@ -13,7 +13,7 @@ use Rattle.model.specs.State.{State, InGrid}
 use Rattle.model.specs.Hold.{Interval, within, holds, holding, unitsAt, held, permitted, Overfull}
 use Rattle.model.specs.Box.{inside, Box, covered}
 use Rattle.model.specs.Forbidden.{TaskSet, choose, prefixed, sidesOf, boxesOf, boxesOfAll, deviceBoxes, Forbidden, forbiddenFrom, forbidden, boxes, forbiddenBoxes}
-use Rattle.model.proofs.Tests.{by-test, by-cases, true-not-false, or-true, or-right}
+use Rattle.model.proofs.Bools.{by-bool, by-cases, true-not-false, or-true, or-right}
 use Rattle.model.proofs.Ranks.{tail-grid}
 use Rattle.model.proofs.Boxes.{covered-append, within-intro}
 use Rattle.model.proofs.Permitted.{not-permitted}
@@ -55,7 +55,7 @@ side-free d task p h = rw (within-intro (record { low = 0; high = length task })
 count-step : (b : Bool) (k n : ℕ) → ((b && leb k n) || leb (suc k) n) ≡ leb (suc k) (cond b 1 0 + n)
 count-step false k n = let z : n ≡ 0 + n = omega arith in ap (leb (suc k)) z
 count-step true k n =
-    by-test (leb k n)
+    by-bool (leb k n)
     (λ h. let l = leb-true k n h in rw h (sym (le-leb (suc k) (1 + n) (omega arith))))
     (λ h. let l = leb-false k n h in rw (h, lt-leb (suc k) n (omega arith)) (sym (lt-leb (suc k) (1 + n) (omega arith))))
 
@@ -134,8 +134,8 @@ forbidden-exact s x g = (
 -- so they hold the states that are not permitted
 pub forbidden-permitted : (s : Set) (x : State) → InGrid (lengths (s .tasks)) x → covered (forbiddenBoxes s) x ≡ not (permitted s x)
 forbidden-permitted s x g =
-    by-test (permitted s x)
-    (λ p. by-test (covered (forbiddenBoxes s) x)
+    by-bool (permitted s x)
+    (λ p. by-bool (covered (forbiddenBoxes s) x)
     (λ c. true-not-false (permitted s x) p (not-permitted s x .1 (forbidden-exact s x g .0 c)))
     (λ c. rw (p, c)))
     (λ p. rw (p, forbidden-exact s x g .1 (not-permitted s x .0 p)))

@@ -10,7 +10,7 @@ use lib.Dec.{eqb}
 use borrow.Author.Tests.{ne-eqb, not-true}
 use Rattle.model.specs.Set.{Action, claim, release, deviceOf, Task, balanced}
 use Rattle.model.specs.Read.{lastTask, addAction, heldAfter}
-use Rattle.model.proofs.Tests.{by-test, and-true}
+use Rattle.model.proofs.Bools.{by-bool, and-true}
 
 -- each element of a list, read by its place, has the property
 abbrev pub EachPlace : {A : Type 0} → (A → Type 0) → List A → A → Type 0
@@ -69,8 +69,8 @@ releases (release d) = true
 pub balanced-on : (d : ℕ) (h : Bool) (a : Action) (u : Task) → (eqb (deviceOf a) d ≡ true → h ≡ releases a)
     → balanced d h (a ∷ u) ≡ balanced d (heldAfter d h (a ∷ [])) u
 unfolding balanced heldAfter releases deviceOf
-balanced-on d h (claim e) u ok = by-test (eqb e d) (λ k. rw (k, ok k)) (λ k. rw k)
-balanced-on d h (release e) u ok = by-test (eqb e d) (λ k. rw (k, ok k)) (λ k. rw k)
+balanced-on d h (claim e) u ok = by-bool (eqb e d) (λ k. rw (k, ok k)) (λ k. rw k)
+balanced-on d h (release e) u ok = by-bool (eqb e d) (λ k. rw (k, ok k)) (λ k. rw k)
 
 pub balanced-first : (d : ℕ) (h : Bool) (a : Action) (u : Task) → balanced d h (a ∷ u) ≡ true → eqb (deviceOf a) d ≡ true → h ≡ releases a
 unfolding balanced releases deviceOf

@@ -1,41 +1,57 @@
--- The theorems on the model.
-pub mod Tests
+-- The theorems on the model, by subject.
+
+-- tests, lists and answers
+pub mod Bools
+pub mod Lists
+pub mod Each
+pub mod Answers
+-- states: steps, ranks and sums
 pub mod States
 pub mod Ranks
-pub mod Boxes
-pub mod Lists
-pub mod UnsafeBox
-pub mod UnsafeSound
-pub mod UnsafeComplete
-pub mod Byte
-pub mod MapExact
-pub mod DeadRanks
-pub mod Permitted
-pub mod ForbiddenExact
-pub mod Holds
-pub mod HoldWalk
-pub mod StartOpen
-pub mod ReleaseOpen
 pub mod Sums
-pub mod Moves
-pub mod BrokerOpen
-pub mod Rounds
-pub mod RouteStep
-pub mod Each
-pub mod PlanBack
-pub mod PlanCount
-pub mod ForbiddenSides
-pub mod PlanFitting
-pub mod ReadNumbers
-pub mod Outcome
+-- reading: faults, words and well-formed sets, both ways
 pub mod Held
 pub mod Parity
 pub mod Words
 pub mod Faults
 pub mod ReadAccepts
 pub mod ReadExact
+pub mod ReadNumbers
+-- holds and permitted states
+pub mod Holds
+pub mod HoldWalk
+pub mod Permitted
+pub mod OneHold
+-- boxes, and the forbidden ones: exact, their sides, and the one that a claim runs into
+pub mod Boxes
+pub mod ForbiddenExact
+pub mod Fits
+pub mod ForbiddenSides
+pub mod ForbiddenEach
+pub mod CrowdedBox
+pub mod ForbiddenBlocker
+pub mod TableOrder
+-- unsafe boxes: one box, sound, complete
+pub mod UnsafeBox
+pub mod UnsafeSound
+pub mod UnsafeComplete
+-- the map: each byte, the whole, and the ranks of a byte
+pub mod Byte
+pub mod MapExact
+pub mod DeadRanks
+pub mod NoUnsafe
+-- the plan by sections: read back, counted, fitting
+pub mod PlanBack
+pub mod PlanCount
+pub mod PlanFitting
+pub mod Outcome
+-- the service: the start is open, laws from three facts, and the broker that has them
+pub mod StartOpen
+pub mod ReleaseOpen
+pub mod Moves
+pub mod Service
 pub mod Records
 pub mod BidAnswers
-pub mod GrantNumber
 pub mod BrokerRecord
-pub mod TableOrder
+-- the route
+pub mod RouteStep

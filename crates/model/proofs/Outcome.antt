@@ -1,68 +1,87 @@
 -- What an analysis leaves where it makes the map: accepted, or refused with 14.
 use Prim.Native.Nat.{ℕ, _≤_}
 use native.Mathlib.Omega.{arith}
-use mathlib.Core.Path.{_≡_, refl}
+use mathlib.Core.Path.{_≡_, refl, sym}
 use mathlib.Core.List.{List}
 use lib.ListN.{length}
 use lib.Dec.{ltb}
 use borrow.Author.Tests.{ltb-false}
-use Rattle.model.specs.Set.{lengthsOf, size}
-use Rattle.model.specs.Read.{Reading, reads, faulty, read, setOf}
-use Rattle.model.specs.Plan.{mapOf, planOf, planWords}
-use Rattle.model.specs.Answer.{planned, refused}
-use Rattle.model.specs.Analysis.{over, analyse, analyseSet, analyseReading}
-use Rattle.model.proofs.Tests.{by-test}
+use Rattle.model.specs.Answer.{given, refused, ifGiven}
+use Rattle.model.specs.Set.{Set, lengthsOf, size}
+use Rattle.model.specs.Read.{Reading, read, setOf}
+use Rattle.model.specs.Map.{mapOf}
+use Rattle.model.specs.Plan.{planOf, planWords}
+use Rattle.model.specs.Record.{mapFits}
+use Rattle.model.specs.Slice.{over}
+use Rattle.model.specs.Analysis.{planFits, withRoom, analyse}
+use Rattle.model.proofs.Bools.{by-bool, by-cases}
+use Rattle.model.proofs.Answers.{given-refused, refused-given, refused-number, given-value, then-refused, then-given}
 use Rattle.model.proofs.ReadNumbers.{read-number}
 
 -- the set is read, its map has room in the slice, and stands at the slice's front afterwards
 pub record Mapped (r : Reading) (map : List ℕ) (made : List ℕ) : Type 0 where
-  pub is-read : r ≡ reads (setOf r)
+  pub is-read : r ≡ given (setOf r)
   pub room : size (lengthsOf (setOf r)) ≤ length map
   pub is-made : made ≡ over (mapOf (setOf r)) map
 
-numbers : {n m p q : ℕ} → refused n p ≡ refused m q → n ≡ m
-numbers e = cc
+module _ (s : Set) (slice : List ℕ) where
+  -- a map that fits has room
+  pub fits-room : (g : ℕ) → mapFits s slice ≡ given g → size (lengthsOf s) ≤ length slice
+  unfolding mapFits
+  fits-room g e = by-bool (ltb (length slice) (size (lengthsOf s))) (λ b. refused-given (rw b at e)) (λ b. ltb-false _ _ b)
 
-counts : {n m : ℕ} → planned n ≡ planned m → n ≡ m
-counts e = cc
+  -- one that does not is refused with 13
+  pub fits-number : (n p : ℕ) → mapFits s slice ≡ refused n p → n ≡ 13
+  unfolding mapFits
+  fits-number n p e =
+      by-bool (ltb (length slice) (size (lengthsOf s))) (λ b. sym (refused-number (rw b at e))) (λ b. given-refused (rw b at e))
 
-count-fits : {k n m : ℕ} → k ≡ n → k ≤ m → n ≤ m
-count-fits e h = omega arith
+  -- a plan that fits is the set's
+  plan-given : (ws : List ℕ) → planFits s slice ≡ given ws → (ws ≡ planWords (planOf s)) × (length ws ≤ length slice)
+  unfolding planFits
+  plan-given ws e =
+      by-bool (ltb (length slice) (length (planWords (planOf s))))
+      (λ b. refused-given (rw b at e))
+      (λ b. let q = given-value (rw b at e) in (sym q, rw (sym q) (ltb-false (length slice) (length (planWords (planOf s))) b)))
 
-not-planned : {n p m : ℕ} {G : Type 0} → refused n p ≡ planned m → G
-not-planned e = let z : _≡_ {A = ℕ} 0 1 = cc in absurd (omega arith)
+module _ (words map : List ℕ) where
+  room-given : (s : Set) → withRoom words map ≡ given s → (read words ≡ given s) × (size (lengthsOf s) ≤ length map)
+  room-given s e =
+      let r = then-given _ (read words) s .0 e in
+      let q = then-given _ (mapFits (r .0) map) s .0 (r .2) in
+      let same = given-value (q .2) in
+      (rw same at (r .1), rw same at (fits-room (r .0) map (q .0) (q .1)))
 
-not-refused : {n p m : ℕ} {G : Type 0} → planned m ≡ refused n p → G
-not-refused e = let z : _≡_ {A = ℕ} 0 1 = cc in absurd (omega arith)
+  room-number : (n p : ℕ) → withRoom words map ≡ refused n p → n ≤ 13
+  room-number n p e =
+      by-cases (then-refused _ (read words) n p .0 e)
+      (λ q. omega (arith, read-number words n p q .1))
+      (λ r. by-cases (then-refused _ (mapFits (r .0) map) n p .0 (r .2)) (λ q. omega (arith, fits-number (r .0) map n p q)) (λ q. given-refused (q .2)))
 
-module _ (map plan : List ℕ) where
-  -- accepted: the plan's words stand at the front of the plan slice too, which is long enough for them
-  accepted : (r : Reading) (n : ℕ) → analyseReading r map plan .answer ≡ planned n
-      → Mapped r map (analyseReading r map plan .map) × (analyseReading r map plan .plan ≡ over (planWords (planOf (setOf r))) plan) × (n ≤ length plan)
-  unfolding analyseReading analyseSet setOf
-  accepted (faulty k p) n e = not-planned e
-  accepted (reads s) n e =
-      by-test (ltb (length map) (size (lengthsOf s)))
-      (λ a. not-planned (rw a at e))
-      (λ a. by-test (ltb (length plan) (length (planWords (planOf s))))
-      (λ b. not-planned (rw (a, b) at e))
-      (λ b. rw (a, b) (record { is-read = refl; room = ltb-false _ _ a; is-made = refl }, refl, count-fits (counts (rw (a, b) at e)) (ltb-false _ _ b))))
+  room-made : (s : Set) → withRoom words map ≡ given s → Mapped (read words) map (over (mapOf s) map)
+  unfolding setOf
+  room-made s e = let r = room-given s e in rw (r .0) (record { is-read = refl; room = r .1; is-made = refl })
 
-  -- 14: the map stands all the same
-  too-short : (r : Reading) (place : ℕ) → ((n p : ℕ) → r ≡ faulty n p → (1 ≤ n) × (n ≤ 12)) → analyseReading r map plan .answer ≡ refused 14 place
-      → Mapped r map (analyseReading r map plan .map)
-  unfolding analyseReading analyseSet setOf
-  too-short (faulty k p) place small e = absurd (omega (arith, small k p refl .1, numbers e))
-  too-short (reads s) place small e =
-      by-test (ltb (length map) (size (lengthsOf s)))
-      (λ a. absurd (omega (arith, numbers (rw a at e))))
-      (λ a. by-test (ltb (length plan) (length (planWords (planOf s))))
-      (λ b. rw (a, b) (record { is-read = refl; room = ltb-false _ _ a; is-made = refl }))
-      (λ b. not-refused (rw (a, b) at e)))
+  module _ (plan : List ℕ) where
+    plan-made : (s : Set) (ws : List ℕ) → withRoom words map ≡ given s → planFits s plan ≡ given ws → read words ≡ given s → ws ≡ planWords (planOf s)
+        → analyse words map plan .plan ≡ over (planWords (planOf (setOf (read words)))) plan
+    unfolding ifGiven setOf
+    plan-made s ws e q d h = rw (e, q, d, h)
 
-pub accepted-made : (words map plan : List ℕ) (n : ℕ) → analyse words map plan .answer ≡ planned n
-    → Mapped (read words) map (analyse words map plan .map) × (analyse words map plan .plan ≡ over (planWords (planOf (setOf (read words)))) plan) × (n ≤ length plan)
-accepted-made words map plan n e = accepted map plan (read words) n e
+    -- accepted: the plan's words stand at the front of the plan slice too, which is long enough for them
+    pub accepted-made : (n : ℕ) → analyse words map plan .answer ≡ given n
+        → Mapped (read words) map (analyse words map plan .map) × (analyse words map plan .plan ≡ over (planWords (planOf (setOf (read words)))) plan) × (n ≤ length plan)
+    unfolding ifGiven
+    accepted-made n e =
+        let r = then-given _ (withRoom words map) n .0 e in
+        let q = then-given _ (planFits (r .0) plan) n .0 (r .2) in
+        let p = plan-given (r .0) plan (q .0) (q .1) in
+        (rw (r .1) (room-made (r .0) (r .1)), plan-made (r .0) (q .0) (r .1) (q .1) (room-given (r .0) (r .1) .0) (p .0), rw (given-value (q .2)) at (p .1))
 
-pub short-made : (words map plan : List ℕ) (place : ℕ) → analyse words map plan .answer ≡ refused 14 place → Mapped (read words) map (analyse words map plan .map)
-short-made words map plan place e = too-short map plan (read words) place (read-number words) e
+    -- 14: the map stands all the same
+    pub short-made : (place : ℕ) → analyse words map plan .answer ≡ refused 14 place → Mapped (read words) map (analyse words map plan .map)
+    unfolding ifGiven
+    short-made place e =
+        by-cases (then-refused _ (withRoom words map) 14 place .0 e)
+        (λ q. absurd (omega (arith, room-number 14 place q)))
+        (λ r. rw (r .1) (room-made (r .0) (r .1)))

@@ -3,22 +3,18 @@ use Prim.Native.Nat.{ℕ, suc, _+_, _<_, _≤_}
 use native.Mathlib.Omega.{arith}
 use native.Mathlib.Nat.{add-zero, zero-add}
 use mathlib.Core.Path.{_≡_, refl, sym, ap, ap₂, _∙_}
-use mathlib.Core.Bool.{Bool, true, false}
+use mathlib.Core.Bool.{true, false}
 use mathlib.Core.List.{List, [], _∷_, _++_, map, append-nil, append-assoc}
 use lib.ListN.{length, length-append, length-map}
 use borrow.Author.Tests.{lt-ltb, le-ltb, le-leb, lt-leb, eq-eqb, ne-eqb}
-use Rattle.model.specs.Test.{any}
 use Rattle.model.specs.Set.{Action, claim, release, deviceOf, Task, Set, lengths, size, balanced, GoodTask}
 use Rattle.model.specs.Layout.{word, DEVICE, TASK, CLAIM, RELEASE, END, actionWord, taskWords, body, withEnd, encode, WellFormed}
-use Rattle.model.specs.Read.{lastTask, heldAfter, note, outOfOrder, fieldAllowed, tooMany, reads, close, readFrom, read}
-use Rattle.model.proofs.Tests.{by-test, true-not-false, any-true}
+use Rattle.model.specs.Answer.{given}
+use Rattle.model.specs.Read.{lastTask, heldAfter, note, outOfOrder, fieldAllowed, tooMany, close, readFrom, read}
+use Rattle.model.proofs.Bools.{any-none}
 use Rattle.model.proofs.Held.{EachPlace, Declared, count-add, last-added, action-added, held-append, releases, balanced-first, balanced-next, balanced-close}
 use Rattle.model.proofs.Words.{setWith}
 use Rattle.model.proofs.Faults.{scanOf, Passes, read-word}
-
--- no number below n passes
-any-none : (n : ℕ) (f : ℕ → Bool) → ((d : ℕ) → d < n → f d ≡ false) → any n f ≡ false
-any-none n f h = by-test (any n f) (λ k. let r = any-true n f k in true-not-false (f (r .0)) (r .2) (h (r .0) (r .1))) (λ k. k)
 
 -- ---- each word's tests
 pass-device : (cs : List ℕ) (c i : ℕ) → 1 ≤ c → c ≤ 8 → length cs < 16 → Passes (scanOf cs []) i DEVICE c
@@ -153,13 +149,13 @@ module _ (cs : List ℕ) (few : length cs ≤ 16) where
       )
 
   ends : (ts : List Task) (i : ℕ) → 1 ≤ length ts → i < 4096 → Closed (length cs) ts → size (lengths ts) ≤ 65536
-      → readFrom (scanOf cs ts) i (word END i ∷ []) ≡ reads (setWith cs ts)
+      → readFrom (scanOf cs ts) i (word END i ∷ []) ≡ given (setWith cs ts)
   unfolding note readFrom close
   ends ts i some l none grid =
       read-word (scanOf cs ts) i END i [] (omega arith) (pass-end cs ts i some none)
       ∙ rw (le-ltb 65536 (size (lengths ts)) grid)
 
-from-nothing : (s : Set) → WellFormed s → readFrom (scanOf [] []) 0 (encode s) ≡ reads s
+from-nothing : (s : Set) → WellFormed s → readFrom (scanOf [] []) 0 (encode s) ≡ given s
 unfolding body withEnd heldAfter lastTask
 from-nothing s w =
     let cs = s .capacities in
@@ -176,7 +172,7 @@ from-nothing s w =
     ∙ ap (λ (k : ℕ). readFrom (scanOf cs ts) k end) size
     ∙ ends cs (w .devices) ts n (w .some-task) words (read-tasks .1) (w .grid)
 
-pub read-complete : (s : Set) → WellFormed s → read (encode s) ≡ reads s
+pub read-complete : (s : Set) → WellFormed s → read (encode s) ≡ given s
 unfolding read withEnd
 read-complete s w =
     let some : length (encode s) ≡ 0 → ⊥ = λ z. omega (arith, length-append (body s) (word END (length (body s)) ∷ [])) in
@@ -185,5 +181,5 @@ read-complete s w =
 -- two well-formed sets with the same words are the same
 pub encode-injective : (s r : Set) → WellFormed s → WellFormed r → encode s ≡ encode r → s ≡ r
 encode-injective s r w v e =
-    let both : reads s ≡ reads r = sym (read-complete s w) ∙ ap read e ∙ read-complete r v in
+    let both : given s ≡ given r = sym (read-complete s w) ∙ ap read e ∙ read-complete r v in
     cc

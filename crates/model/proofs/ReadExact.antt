@@ -11,11 +11,12 @@ use lib.Dec.{eqb, ltb, leb}
 use borrow.Author.Tests.{ltb-true, ltb-false, leb-true, leb-false, eqb-true, eqb-false, not-false}
 use Rattle.model.specs.Set.{Action, claim, release, deviceOf, Task, Set, lengths, size, balanced, GoodTask}
 use Rattle.model.specs.Layout.{word, DEVICE, TASK, CLAIM, RELEASE, END, actionWord, taskWords, body, withEnd, encode, WellFormed}
-use Rattle.model.specs.Read.{lastTask, addAction, heldAfter, note, outOfOrder, fieldAllowed, tooMany, holdsSome, reads, close, readFrom, read}
-use Rattle.model.proofs.Tests.{by-test, true-not-false, and-true, any-false}
+use Rattle.model.specs.Answer.{given}
+use Rattle.model.specs.Read.{lastTask, addAction, heldAfter, note, outOfOrder, fieldAllowed, tooMany, holdsSome, close, readFrom, read}
+use Rattle.model.proofs.Bools.{by-bool, true-not-false, and-true, any-false}
 use Rattle.model.proofs.Held.{EachPlace, place-added, Declared, count-add, last-added, action-added, held-append, held-unnamed, releases, balanced-on}
 use Rattle.model.proofs.Words.{setWith, body-device, body-task, body-action}
-use Rattle.model.proofs.Faults.{scanOf, WordRead, not-faulty, word-reads, by-kind}
+use Rattle.model.proofs.Faults.{scanOf, WordRead, not-refused, word-reads, by-kind}
 use Rattle.model.proofs.ReadAccepts.{read-complete}
 
 -- the devices and tasks read so far are as they must be
@@ -26,21 +27,21 @@ record Sound (cs : List ℕ) (ts : List Task) : Type 0 where
   each-task : EachPlace (GoodTask (length cs)) ts []
 
 -- so are the actions t of the open task: it may go on as what it holds allows
-record Open (cs : List ℕ) (ts : List Task) (t : Task) : Type 0 where
+record OpenScan (cs : List ℕ) (ts : List Task) (t : Task) : Type 0 where
   before : Sound cs ts
   count : length ts < 8
   actions : length t ≤ 255
   declared : Declared (length cs) t
   balance : (d : ℕ) (u : Task) → balanced d false (t ++ u) ≡ balanced d (heldAfter d false t) u
 
-module _ (cs : List ℕ) (ts : List Task) (t : Task) (o : Open cs ts t) where
+module _ (cs : List ℕ) (ts : List Task) (t : Task) (o : OpenScan cs ts t) where
   -- a task that holds nothing may be closed
   closes : holdsSome (scanOf cs (ts ++ (t ∷ []))) ≡ false → Sound cs (ts ++ (t ∷ []))
   unfolding balanced
   closes none =
       let n = length cs in
       let free : (d : ℕ) → heldAfter d false t ≡ false = λ d.
-      by-test (ltb d n) (λ k. rw (last-added ts t) at (any-false n _ none d (ltb-true d n k)))
+      by-bool (ltb d n) (λ k. rw (last-added ts t) at (any-false n _ none d (ltb-true d n k)))
       (λ k. held-unnamed n d false t (ltb-false d n k) (o .declared)) in
       let good : GoodTask n t =
       record { actions = o .actions; declared = o .declared; balance = λ d. rw (append-nil t, free d) at (o .balance d []) } in
@@ -52,7 +53,7 @@ module _ (cs : List ℕ) (ts : List Task) (t : Task) (o : Open cs ts t) where
       }
 
   -- an action that it may do now is added to it
-  acts : (a : Action) → length t < 255 → deviceOf a < length cs → heldAfter (deviceOf a) false t ≡ releases a → Open cs ts (t ++ (a ∷ []))
+  acts : (a : Action) → length t < 255 → deviceOf a < length cs → heldAfter (deviceOf a) false t ≡ releases a → OpenScan cs ts (t ++ (a ∷ []))
   acts a room declared may =
       record {
         before = o .before;
@@ -66,17 +67,17 @@ module _ (cs : List ℕ) (ts : List Task) (t : Task) (o : Open cs ts t) where
             ∙ ap (λ (h : Bool). balanced d h u) (sym (held-append d false t (a ∷ [])));
       }
 
-opens : (cs : List ℕ) (ts : List Task) → Sound cs ts → length ts < 8 → Open cs ts []
+opens : (cs : List ℕ) (ts : List Task) → Sound cs ts → length ts < 8 → OpenScan cs ts []
 unfolding heldAfter
 opens cs ts o room = record { before = o; count = room; actions = omega arith; declared = λ p k. absurd (omega arith); balance = λ d u. refl }
 
 -- after END there is no word, and the grid is within its limit
-after-end : (s r : Set) (i : ℕ) (ws : List ℕ) → readFrom (record { set = s; ended = true }) i ws ≡ reads r
+after-end : (s r : Set) (i : ℕ) (ws : List ℕ) → readFrom (record { set = s; ended = true }) i ws ≡ given r
     → (ws ≡ []) × (size (lengths (s .tasks)) ≤ 65536) × (s ≡ r)
 unfolding readFrom close
 after-end s r i [] e =
     let g = size (lengths (s .tasks)) in
-    let p = not-faulty (ltb 65536 g) _ _ (reads s) r e in
+    let p = not-refused (ltb 65536 g) _ _ (given s) r e in
     let same = p .1 in (refl, ltb-false 65536 g (p .0), (cc))
 after-end s r i (w ∷ ws) e = true-not-false true refl (word-reads (record { set = s; ended = true }) i w ws r e .passes .before-end)
 
@@ -88,11 +89,11 @@ module _ (all : List ℕ) (short : length all ≤ 4096) (r : Set) where
   -- all words are those of cs and ts and then ws, and from there ws is accepted
   record Takes (cs : List ℕ) (ts : List Task) (ws : List ℕ) : Type 0 where
     words : body (setWith cs ts) ++ ws ≡ all
-    taken : readFrom (scanOf cs ts) (length (body (setWith cs ts))) ws ≡ reads r
+    taken : readFrom (scanOf cs ts) (length (body (setWith cs ts))) ws ≡ given r
 
   -- one word more is read
   takes-on : (cs : List ℕ) (ts : List Task) (ds : List ℕ) (us : List Task) (w : ℕ) (ws : List ℕ) → Takes cs ts (w ∷ ws)
-      → body (setWith ds us) ≡ body (setWith cs ts) ++ (w ∷ []) → readFrom (scanOf ds us) (suc (length (body (setWith cs ts)))) ws ≡ reads r → Takes ds us ws
+      → body (setWith ds us) ≡ body (setWith cs ts) ++ (w ∷ []) → readFrom (scanOf ds us) (suc (length (body (setWith cs ts)))) ws ≡ given r → Takes ds us ws
   takes-on cs ts ds us w ws e more next =
       let b = body (setWith cs ts) in
       let count : length (body (setWith ds us)) ≡ suc (length b) = ap length more ∙ simp length-append (omega arith) in
@@ -140,7 +141,7 @@ module _ (all : List ℕ) (short : length all ≤ 4096) (r : Set) where
       )
 
   by-task : (cs : List ℕ) (ts : List Task) (w : ℕ) (ws : List ℕ) (f : ℕ) → Sound cs ts → Takes cs ts (w ∷ ws) → ReadHere cs ts w ws TASK f
-      → Open cs ts [] × Takes cs (ts ++ ([] ∷ [])) ws
+      → OpenScan cs ts [] × Takes cs (ts ++ ([] ∷ [])) ws
   unfolding note fieldAllowed tooMany
   by-task cs ts w ws f o e x =
       let made : w ≡ word TASK 0 = x .made ∙ ap (word TASK) (eqb-true f 0 (x .passes .field)) in (
@@ -148,14 +149,14 @@ module _ (all : List ℕ) (short : length all ≤ 4096) (r : Set) where
         takes-on cs ts cs (ts ++ ([] ∷ [])) w ws e (rw made (body-task cs ts)) (x .after),
       )
 
-  module _ (cs : List ℕ) (ts : List Task) (t : Task) (w : ℕ) (ws : List ℕ) (o : Open cs ts t) (e : Takes cs (ts ++ (t ∷ [])) (w ∷ ws)) where
+  module _ (cs : List ℕ) (ts : List Task) (t : Task) (w : ℕ) (ws : List ℕ) (o : OpenScan cs ts t) (e : Takes cs (ts ++ (t ∷ [])) (w ∷ ws)) where
     -- the open task has done the action a too
     abbrev Acted : Action → Type 0
-    Acted a = Open cs ts (t ++ (a ∷ [])) × Takes cs (ts ++ ((t ++ (a ∷ [])) ∷ [])) ws
+    Acted a = OpenScan cs ts (t ++ (a ∷ [])) × Takes cs (ts ++ ((t ++ (a ∷ [])) ∷ [])) ws
 
     by-action : (a : Action) → w ≡ actionWord a → leb 255 (length (lastTask (ts ++ (t ∷ [])))) ≡ false → ltb (deviceOf a) (length cs) ≡ true
         → heldAfter (deviceOf a) false (lastTask (ts ++ (t ∷ []))) ≡ releases a
-        → readFrom (scanOf cs (addAction (ts ++ (t ∷ [])) a)) (suc (length (body (setWith cs (ts ++ (t ∷ [])))))) ws ≡ reads r → Acted a
+        → readFrom (scanOf cs (addAction (ts ++ (t ∷ [])) a)) (suc (length (body (setWith cs (ts ++ (t ∷ [])))))) ws ≡ given r → Acted a
     by-action a made room declared may next =
         let last = last-added ts t in
         let us = ts ++ (t ∷ []) in
@@ -173,7 +174,7 @@ module _ (all : List ℕ) (short : length all ≤ 4096) (r : Set) where
     by-release f x = by-action (release f) (x .made) (x .passes .room) (x .passes .field) (not-false _ (x .passes .released)) (x .after)
 
   -- ---- the words left, with a task open, and before the first TASK
-  in-task : (ws : List ℕ) (cs : List ℕ) (ts : List Task) (t : Task) → Open cs ts t → Takes cs (ts ++ (t ∷ [])) ws → Found
+  in-task : (ws : List ℕ) (cs : List ℕ) (ts : List Task) (t : Task) → OpenScan cs ts t → Takes cs (ts ++ (t ∷ [])) ws → Found
   unfolding readFrom close outOfOrder
   in-task [] cs ts t o e = absurd (let z : _≡_ {A = ℕ} 0 1 = cc (e .taken) in omega arith)
   in-task (w ∷ ws) cs ts t o e =
@@ -197,15 +198,15 @@ module _ (all : List ℕ) (short : length all ≤ 4096) (r : Set) where
       (λ f x. true-not-false true refl (x .passes .order))
 
 -- accepted words are those of the set answered, and that is well formed
-pub read-sound : (ws : List ℕ) (s : Set) → read ws ≡ reads s → (ws ≡ encode s) × WellFormed s
+pub read-sound : (ws : List ℕ) (s : Set) → read ws ≡ given s → (ws ≡ encode s) × WellFormed s
 unfolding read body taskWords
 read-sound ws s e =
-    let p = not-faulty (eqb (length ws) 0) 1 0 _ s e in
-    let q = not-faulty (ltb 4096 (length ws)) 2 4096 _ s (p .1) in
+    let p = not-refused (eqb (length ws) 0) 1 0 _ s e in
+    let q = not-refused (ltb 4096 (length ws)) 2 4096 _ s (p .1) in
     let nothing : Sound [] [] =
     record { capacities = λ d h. absurd (omega arith); devices = omega arith; tasks = omega arith; each-task = λ t h. absurd (omega arith) } in
     in-devices ws (ltb-false 4096 (length ws) (q .0)) s ws [] nothing (record { words = refl; taken = q .1 })
 
 -- the reading accepts the sets of the layout and no others
-pub read-exact : (ws : List ℕ) (s : Set) → (read ws ≡ reads s) ↔ ((ws ≡ encode s) × WellFormed s)
+pub read-exact : (ws : List ℕ) (s : Set) → (read ws ≡ given s) ↔ ((ws ≡ encode s) × WellFormed s)
 read-exact ws s = (read-sound ws s, λ h. ap read (h .0) ∙ read-complete s (h .1))

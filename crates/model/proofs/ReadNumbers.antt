@@ -9,8 +9,10 @@ use lib.Dec.{eqb, ltb, leb}
 use borrow.Author.Tests.{ltb-true}
 use Rattle.model.specs.Set.{lengthsOf, size}
 use Rattle.model.specs.Layout.{kindOf, fieldOf, TASK, CLAIM, RELEASE, END}
-use Rattle.model.specs.Read.{Scan, nothingRead, note, holdsNow, holdsSome, outOfOrder, fieldAllowed, tooMany, fault, reads, faulty, close, readFrom, read}
-use Rattle.model.proofs.Tests.{by-test}
+use Rattle.model.specs.Answer.{refused}
+use Rattle.model.specs.Read.{Scan, nothingRead, note, holdsNow, holdsSome, outOfOrder, fieldAllowed, tooMany, fault, close, readFrom, read}
+use Rattle.model.proofs.Bools.{by-bool}
+use Rattle.model.proofs.Answers.{given-refused, refused-number}
 
 cond-le : (b : Bool) (x y m : ℕ) → x ≤ m → y ≤ m → cond b x y ≤ m
 cond-le true x y m h k = h
@@ -28,38 +30,32 @@ fault-small s i k f =
     (cond-le (eqb k RELEASE && not (holdsNow s f)) 9 _ 12 (omega arith)
     (cond-le ((eqb k TASK || eqb k END) && holdsSome s) 10 0 12 (omega arith) (omega arith))))))))
 
-same-number : {n m p q : ℕ} → faulty n p ≡ faulty m q → n ≡ m
-same-number e = cc
-
 between : {n m : ℕ} → m ≡ n → 1 ≤ m → m ≤ 12 → (1 ≤ n) × (n ≤ 12)
 between e l h = (omega arith, omega arith)
 
-close-listed : (s : Scan) (i n p : ℕ) → close s i ≡ faulty n p → (1 ≤ n) × (n ≤ 12)
+close-listed : (s : Scan) (i n p : ℕ) → close s i ≡ refused n p → (1 ≤ n) × (n ≤ 12)
 unfolding close
 close-listed s i n p e =
-    by-test (s .ended)
-    (λ d. by-test (ltb 65536 (size (lengthsOf (s .set))))
-    (λ g. between (same-number (rw (d, g) at e)) (omega arith) (omega arith))
-    (λ g. absurd (never (rw (d, g) at e))))
-    (λ d. between (same-number (rw d at e)) (omega arith) (omega arith))
-  where
-    never : reads (s .set) ≡ faulty n p → ⊥
-    never q = let z : _≡_ {A = ℕ} 0 1 = cc in omega arith
+    by-bool (s .ended)
+    (λ d. by-bool (ltb 65536 (size (lengthsOf (s .set))))
+    (λ g. between (refused-number (rw (d, g) at e)) (omega arith) (omega arith))
+    (λ g. given-refused (rw (d, g) at e)))
+    (λ d. between (refused-number (rw d at e)) (omega arith) (omega arith))
 
-from-listed : (s : Scan) (i : ℕ) (ws : List ℕ) (n p : ℕ) → readFrom s i ws ≡ faulty n p → (1 ≤ n) × (n ≤ 12)
+from-listed : (s : Scan) (i : ℕ) (ws : List ℕ) (n p : ℕ) → readFrom s i ws ≡ refused n p → (1 ≤ n) × (n ≤ 12)
 unfolding readFrom
 from-listed s i [] n p e = close-listed s i n p e
 from-listed s i (w ∷ ws) n p e =
     let f = fault s i (kindOf w) (fieldOf w) in
-    by-test (ltb 0 f)
-    (λ b. between (same-number (rw b at e)) (ltb-true 0 f b) (fault-small s i (kindOf w) (fieldOf w)))
+    by-bool (ltb 0 f)
+    (λ b. between (refused-number (rw b at e)) (ltb-true 0 f b) (fault-small s i (kindOf w) (fieldOf w)))
     (λ b. from-listed (note s (kindOf w) (fieldOf w)) (suc i) ws n p (rw b at e))
 
-pub read-number : (ws : List ℕ) (n p : ℕ) → read ws ≡ faulty n p → (1 ≤ n) × (n ≤ 12)
+pub read-number : (ws : List ℕ) (n p : ℕ) → read ws ≡ refused n p → (1 ≤ n) × (n ≤ 12)
 unfolding read
 read-number ws n p e =
-    by-test (eqb (length ws) 0)
-    (λ b. between (same-number (rw b at e)) (omega arith) (omega arith))
-    (λ b. by-test (ltb 4096 (length ws))
-    (λ c. between (same-number (rw (b, c) at e)) (omega arith) (omega arith))
+    by-bool (eqb (length ws) 0)
+    (λ b. between (refused-number (rw b at e)) (omega arith) (omega arith))
+    (λ b. by-bool (ltb 4096 (length ws))
+    (λ c. between (refused-number (rw (b, c) at e)) (omega arith) (omega arith))
     (λ c. from-listed nothingRead 0 ws n p (rw (b, c) at e)))

@@ -7,34 +7,35 @@ use mathlib.Core.Bool.{true, false}
 use mathlib.Core.List.{List, [], _∷_}
 use lib.ListN.{length, take, drop, set, replicate, length-append, length-set, length-map, List·getD-append}
 use lib.Seq.{getD-take, getD-set-other, take-set-lt}
-use lib.Dec.{eqb, ltb}
-use borrow.Author.Tests.{ltb-true, ltb-false}
+use lib.Dec.{ltb}
+use borrow.Author.Tests.{ltb-true, ltb-false, le-ltb}
+use Rattle.model.specs.Answer.{given}
 use Rattle.model.specs.Set.{Task, Set, lengths, lengthsOf, at, size}
 use Rattle.model.specs.Layout.{WellFormed}
-use Rattle.model.specs.State.{State, next, unfinished, start, rank}
+use Rattle.model.specs.State.{State, next, start, rank}
 use Rattle.model.specs.Hold.{permitted}
-use Rattle.model.specs.Map.{bytes}
-use Rattle.model.specs.Plan.{mapOf}
-use Rattle.model.specs.Analysis.{over}
-use Rattle.model.specs.Broker.{Record, stateIn, misplaced, grant}
-use Rattle.model.proofs.Tests.{by-test, and-true, any-true}
-use Rattle.model.proofs.States.{unfinished-task}
+use Rattle.model.specs.Map.{mapOf}
+use Rattle.model.specs.Slice.{over}
+use Rattle.model.specs.Record.{Record, stateIn, misplaced, mapFits, placed}
+use Rattle.model.specs.Broker.{grant}
+use Rattle.model.proofs.Bools.{by-bool, any-true}
+use Rattle.model.proofs.States.{unfinished-task, start-grid}
 use Rattle.model.proofs.Ranks.{rank-lt}
 use Rattle.model.proofs.MapExact.{map-right}
-use Rattle.model.proofs.DeadRanks.{length-bytes}
+use Rattle.model.proofs.Lists.{at-zeros}
+use Rattle.model.proofs.DeadRanks.{map-length}
 use Rattle.model.proofs.StartOpen.{start-open}
-use Rattle.model.proofs.Moves.{moves}
-use Rattle.model.proofs.BrokerOpen.{Good, start-grid, moves-good}
+use Rattle.model.proofs.Moves.{moves, moves-unfinished, Good, moves-good}
 
 -- a slice that holds the map of a set at its front
 pub record Carries (s : Set) (m : List ℕ) : Type 0 where
   pub room : length (mapOf s) ≤ length m
   pub same : (r : ℕ) → r < size (lengthsOf s) → at m r ≡ at (mapOf s) r
 
--- the map has a byte for each state
-pub map-length : (s : Set) → length (mapOf s) ≡ size (lengthsOf s)
-unfolding bytes
-map-length s = length-bytes (lengthsOf s) (permitted s) (size (lengthsOf s))
+-- such a slice is long enough: 13 does not apply
+pub carries-fits : (s : Set) (m : List ℕ) → Carries s m → mapFits s m ≡ given (size (lengthsOf s))
+unfolding mapFits
+carries-fits s m c = rw (le-ltb (length m) (size (lengthsOf s)) (omega (arith, c .room, map-length s)))
 
 -- a slice with the map written over its front
 pub over-carries : (s : Set) (slice : List ℕ) → Carries s (over (mapOf s) slice)
@@ -44,7 +45,7 @@ over-carries s slice = record {
 }
 
 -- a record in service: eight positions, those of the tasks a state of the grid that is open, the others 0
-pub record Sound (s : Set) (r : Record) : Type 0 where
+pub record InService (s : Set) (r : Record) : Type 0 where
   pub eight : length (r .positions) ≡ 8
   pub good : Good (lengthsOf s) (permitted s) (stateIn s r)
   pub absent : (t : ℕ) → length (s .tasks) ≤ t → at (r .positions) t ≡ 0
@@ -55,20 +56,14 @@ zeros-start k [] h = refl
 zeros-start zero (task ∷ tasks) h = absurd (omega arith)
 zeros-start (suc k) (task ∷ tasks) h = ap (λ x. 0 ∷ x) (zeros-start k tasks (omega arith))
 
--- a list of zeros has 0 everywhere
-at-zeros : (k t : ℕ) → at (replicate k 0) t ≡ 0
-at-zeros zero t = refl
-at-zeros (suc k) zero = refl
-at-zeros (suc k) (suc t) = at-zeros k t
-
 module _ (s : Set) (w : WellFormed s) where
   -- with all positions 0 the state is the start
   pub start-state : take (length (s .tasks)) (replicate 8 0) ≡ start (lengthsOf s)
   start-state = zeros-start 8 (s .tasks) (w .tasks)
 
   -- a record with all positions 0 is fit for service, whatever its grant number
-  pub start-sound : (g : ℕ) → Sound s (record { positions = replicate 8 0; grants = g })
-  start-sound g = record {
+  pub start-serves : (g : ℕ) → InService s (record { positions = replicate 8 0; grants = g })
+  start-serves g = record {
     eight = refl;
     good = rw start-state (record { grid = start-grid (lengthsOf s); is-open = start-open s w });
     absent = λ t h. at-zeros 8 t;
@@ -82,13 +77,12 @@ grant-state s r t h =
 -- only a task of the set moves
 pub moves-task : (s : Set) (x : State) (t : ℕ) → moves (lengthsOf s) (mapOf s) x t ≡ true → t < length (s .tasks)
 moves-task s x t e =
-    let u = and-true (unfinished (lengthsOf s) x t) (eqb (at (mapOf s) (rank (lengthsOf s) (next x t))) 0) e .0 in
-    omega (arith, length-map (s .tasks) length, unfinished-task (lengthsOf s) x t u)
+    omega (arith, length-map (s .tasks) length, unfinished-task (lengthsOf s) x t (moves-unfinished (lengthsOf s) (mapOf s) x t e))
 
-module _ (s : Set) (r : Record) (i : Sound s r) where
+module _ (s : Set) (r : Record) (i : InService s r) where
   -- a grant where the state moves leaves the record fit for service
-  pub grant-sound : (t : ℕ) → moves (lengthsOf s) (mapOf s) (stateIn s r) t ≡ true → Sound s (grant r t)
-  grant-sound t e =
+  pub grant-serves : (t : ℕ) → moves (lengthsOf s) (mapOf s) (stateIn s r) t ≡ true → InService s (grant r t)
+  grant-serves t e =
       let h = moves-task s (stateIn s r) t e in
       record {
         eight = length-set (r .positions) t _ ∙ i .eight;
@@ -99,7 +93,7 @@ module _ (s : Set) (r : Record) (i : Sound s r) where
   -- no position is over its L, which counts as 0 for an absent task
   position-fits : (t : ℕ) → at (r .positions) t ≤ at (lengthsOf s) t
   position-fits t =
-      by-test (ltb t (length (s .tasks)))
+      by-bool (ltb t (length (s .tasks)))
       (λ e. rw (getD-take (length (s .tasks)) (r .positions) t 0 (ltb-true t (length (s .tasks)) e)) at (i .good .grid .fits t))
       (λ e. omega (arith, i .absent t (ltb-false t (length (s .tasks)) e)))
 
@@ -107,11 +101,15 @@ module _ (s : Set) (r : Record) (i : Sound s r) where
   pub not-misplaced : misplaced s r ≡ false
   unfolding misplaced
   not-misplaced =
-      by-test (misplaced s r)
+      by-bool (misplaced s r)
       (λ e.
       let q = any-true 8 (λ t. ltb (at (lengthsOf s) t) (at (r .positions) t)) e in
       absurd (omega (arith, ltb-true (at (lengthsOf s) (q .0)) (at (r .positions) (q .0)) (q .2), position-fits (q .0))))
       (λ e. e)
+
+  pub is-placed : placed s r ≡ given (stateIn s r)
+  unfolding placed
+  is-placed = rw not-misplaced
 
   -- the record's own byte is 0
   pub own-byte : (m : List ℕ) → Carries s m → at m (rank (lengthsOf s) (stateIn s r)) ≡ 0

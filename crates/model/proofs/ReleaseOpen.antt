@@ -13,8 +13,8 @@ use Rattle.model.specs.Layout.{WellFormed}
 use Rattle.model.specs.Read.{heldAfter}
 use Rattle.model.specs.State.{State, InGrid, next, unfinished}
 use Rattle.model.specs.Hold.{holds, holding, unitsAt, held, permitted}
-use Rattle.model.specs.Run.{CanEnd, ended, step, Open}
-use Rattle.model.proofs.Tests.{by-test, and-true}
+use Rattle.model.specs.Run.{CanEnd, is-end, step, Open}
+use Rattle.model.proofs.Bools.{by-bool, and-true}
 use Rattle.model.proofs.States.{unfinished-task, end-finished, next-grid, at-next-other}
 use Rattle.model.proofs.Held.{held-append}
 use Rattle.model.proofs.HoldWalk.{holds-walk}
@@ -46,9 +46,9 @@ release-units e d p task here after h a =
     let one : take (suc p) task ≡ take p task ++ (release d ∷ []) = take-suc task p (claim 0) h ∙ ap (λ c. take p task ++ (c ∷ [])) a in
     let walked : holding (holds e task) (suc p) ≡ (not (eqb d e) && holding (holds e task) p) =
     after e ∙ ap (heldAfter e false) one ∙ held-append e false (take p task) (release d ∷ []) ∙ ap (λ b. not (eqb d e) && b) (sym (here e)) in
-    by-test (holding (holds e task) p)
-    (λ b. by-test (eqb d e) (λ q. rw (walked, b, q) (omega arith)) (λ q. rw (walked, b, q) (omega arith)))
-    (λ b. by-test (eqb d e) (λ q. rw (walked, b, q) (omega arith)) (λ q. rw (walked, b, q) (omega arith)))
+    by-bool (holding (holds e task) p)
+    (λ b. by-bool (eqb d e) (λ q. rw (walked, b, q) (omega arith)) (λ q. rw (walked, b, q) (omega arith)))
+    (λ b. by-bool (eqb d e) (λ q. rw (walked, b, q) (omega arith)) (λ q. rw (walked, b, q) (omega arith)))
 
 module _ (s : Set) (w : WellFormed s) where
   abbrev ls : List ℕ
@@ -69,9 +69,9 @@ module _ (s : Set) (w : WellFormed s) where
     -- and from one that can end to one that can
     release-ends : (x : State) → InGrid ls x → unfinished ls x t ≡ true → actionAt s t (at x t) ≡ release d → CanEnd ls (permitted s) x
         → CanEnd ls (permitted s) (next x t)
-    release-ends x g u a (ended e) = absurd (end-finished ls x e t u)
+    release-ends x g u a (is-end e) = absurd (end-finished ls x e t u)
     release-ends x g u a (step v b c) =
-        by-test (eqb v t) (λ q. rw (eqb-true v t q) at c) λ q.
+        by-bool (eqb v t) (λ q. rw (eqb-true v t q) at c) λ q.
         let n = eqb-false v t q in
         let y = next x v in
         let m = and-true (unfinished ls x v) (permitted s y) b in

@@ -8,7 +8,7 @@ use lib.Dec.{eqb}
 use borrow.Author.Tests.{eqb-true, eqb-false}
 use Rattle.model.specs.State.{State}
 use Rattle.model.specs.Route.{stepFrom}
-use Rattle.model.proofs.Tests.{by-test, true-not-false}
+use Rattle.model.proofs.Bools.{by-bool, true-not-false}
 use Rattle.model.proofs.Moves.{moves}
 
 module _ (ls m : List ℕ) (x : State) where
@@ -17,17 +17,17 @@ module _ (ls m : List ℕ) (x : State) where
   unfolding stepFrom
   step-lands zero t h = absurd (omega arith)
   step-lands (suc k) t h =
-      by-test (moves ls m x t) (λ e. rw (e, e)) (λ e. rw e (step-lands k (suc t) (omega (arith, rw e at h))))
+      by-bool (moves ls m x t) (λ e. rw (e, e)) (λ e. rw e (step-lands k (suc t) (omega (arith, rw e at h))))
 
   -- and where a task has one, the search finds one
   pub step-found : (k t u : ℕ) → t ≤ u → u < t + k → moves ls m x u ≡ true → stepFrom ls m k t x < t + k
   unfolding stepFrom
   step-found zero t u l h e = absurd (omega arith)
   step-found (suc k) t u l h e =
-      by-test (moves ls m x t)
+      by-bool (moves ls m x t)
       (λ f. rw f (omega arith))
       (λ f.
-      by-test (eqb t u)
+      by-bool (eqb t u)
       (λ q. true-not-false (moves ls m x t) (rw (eqb-true t u q) e) f)
       (λ q. rw f (omega (arith, step-found k (suc t) u (omega (arith, eqb-false t u q)) (omega arith) e))))
 
@@ -36,9 +36,9 @@ module _ (ls m : List ℕ) (x : State) where
   unfolding stepFrom
   step-smallest zero t u l h = absurd (omega arith)
   step-smallest (suc k) t u l h =
-      by-test (moves ls m x t)
+      by-bool (moves ls m x t)
       (λ e. absurd (omega (arith, rw e at h)))
       (λ e.
-      by-test (eqb t u)
+      by-bool (eqb t u)
       (λ q. rw (eqb-true t u q) at e)
       (λ q. step-smallest k (suc t) u (omega (arith, eqb-false t u q)) (rw e at h)))

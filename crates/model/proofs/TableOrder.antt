@@ -6,10 +6,10 @@ use mathlib.Core.List.{List, [], _∷_}
 use lib.ListN.{length}
 use lib.Count.{ones}
 use borrow.Author.Tests.{not-false}
-use Rattle.model.specs.Test.{any}
+use Rattle.model.specs.Below.{any}
 use Rattle.model.specs.Forbidden.{choose}
 use Rattle.model.specs.TaskTable.{maskOf, masksFrom, table, setOfMask, setsIn}
-use Rattle.model.proofs.Tests.{true-not-false, and-true, any-false}
+use Rattle.model.proofs.Bools.{true-not-false, and-true, any-false}
 
 pub table-length : length table ≡ 255
 unfolding table masksFrom maskOf choose

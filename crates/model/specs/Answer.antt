@@ -1,15 +1,18 @@
--- What the calls answer (document 01, "The broker", "Turned back, by place").
+-- What a call answers (document 01, "Turned back, by place").
 use Prim.Native.Nat.{ℕ}
 
-pub data Answer : Type 0 where
-  -- an accepted analysis, with the number of plan words
-  planned : ℕ → Answer
-  -- an accepted route, with its length
-  routed : ℕ → Answer
-  -- an again at the end
-  restarted : Answer
-  -- a bid: granted; the task is finished; the device is busy; held, with the next state's rank
-  granted finished : Answer
-  busy held : ℕ → Answer
-  -- a refusal's number and place
-  refused : ℕ → ℕ → Answer
+-- a value, or a refusal's number and place
+pub data Answer (A : Type 0) : Type 0 where
+  given : A → Answer A
+  refused : ℕ → ℕ → Answer A
+
+-- refusals first: a value goes on to what comes next, a refusal stays as it is
+infixr 20 _then_
+unfoldable pub _then_ : {A B : Type 0} → Answer A → (A → Answer B) → Answer B
+given a then f = f a
+refused n p then f = refused n p
+
+-- what follows from an answer: from a value what f makes of it, from any refusal `otherwise`
+unfoldable pub ifGiven : {A B : Type 0} → Answer A → (A → B) → B → B
+ifGiven (given a) f otherwise = f a
+ifGiven (refused n p) f otherwise = otherwise

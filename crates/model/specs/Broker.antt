@@ -1,122 +1,119 @@
--- The broker (document 01, "The broker"; refusals 13 and 16 to 19): its record, bid, again, and lists of calls.
+-- The broker (document 01, "The broker"; refusals 13 and 16 to 19): bid, again, and lists of calls.
 use Prim.Native.Nat.{ℕ, _+_, _%_, _<_}
 use mathlib.Core.Bool.{Bool, true, false, not, cond, _||_}
 use mathlib.Core.List.{List, [], _∷_, _++_, List·Memᴰ, map}
-use lib.ListN.{length, take, set, replicate}
+use lib.ListN.{length, set, replicate}
 use lib.Dec.{eqb, ltb, leb}
-use Rattle.model.specs.Test.{any}
-use Rattle.model.specs.Set.{Set, deviceOf, lengthsOf, actionAt, at, size}
-use Rattle.model.specs.State.{State, next, unfinished, isEnd, rank}
-use Rattle.model.specs.Read.{Reading, reads, faulty, read}
-use Rattle.model.specs.Answer.{Answer, planned, routed, restarted, granted, finished, busy, held, refused}
+use Rattle.model.specs.Answer.{Answer, given, refused, _then_, ifGiven}
+use Rattle.model.specs.Set.{Set, deviceOf, lengthsOf, actionAt, at}
+use Rattle.model.specs.State.{next, unfinished, isEnd, rank}
+use Rattle.model.specs.Read.{read}
+use Rattle.model.specs.Record.{Record, mapFits, placed}
 
--- eight positions and a grant number
-pub record Record : Type 0 where
-  pub positions : List ℕ
-  pub grants : ℕ
+-- what a bid answers: granted; the task is finished; the device is busy; held, with the next state's rank
+pub data Bid : Type 0 where
+  granted finished : Bid
+  busy held : ℕ → Bid
 
--- the record that a service starts with: all 0
-abbrev pub fresh : Record
-fresh = record { positions = replicate 8 0; grants = 0 }
-
--- the state that a record gives the tasks of a set
-abbrev pub stateIn : Set → Record → State
-stateIn s r = take (length (s .tasks)) (r .positions)
-
--- 16: a position over its L, or not 0 for an absent task, whose L counts as 0
-unfoldable pub misplaced : Set → Record → Bool
-misplaced s r = any 8 (λ t. ltb (at (lengthsOf s) t) (at (r .positions) t))
+-- what an again answers at the end
+pub data Again : Type 0 where
+  restarted : Again
 
 -- what a call answers, and the record afterwards
-pub record Served : Type 0 where
-  pub answer : Answer
+pub record Served (A : Type 0) : Type 0 where
+  pub answer : Answer A
   pub after : Record
 
 -- the answer of a bid whose next state has rank r and byte b, and whose next action names device d
-unfoldable pub bidByte : ℕ → ℕ → ℕ → Answer
+unfoldable pub bidByte : ℕ → ℕ → ℕ → Answer Bid
 bidByte b r d =
     cond (ltb 3 b) (refused 18 r)
-    (cond (eqb b 1) (busy d)
-    (cond (eqb b 2 || eqb b 3) (held r)
-    granted))
+    (cond (eqb b 1) (given (busy d))
+    (cond (eqb b 2 || eqb b 3) (given (held r))
+    (given granted)))
 
 -- the answer of a bid of task t on an accepted set and a map: the first that applies
-unfoldable pub bidAnswer : Set → List ℕ → Record → ℕ → Answer
+unfoldable pub bidAnswer : Set → List ℕ → Record → ℕ → Answer Bid
 bidAnswer s m r t =
+    mapFits s m then λ grid.
+    placed s r then λ x.
     let ls = lengthsOf s in
-    let x = stateIn s r in
     let y = next x t in
-    cond (ltb (length m) (size ls)) (refused 13 (size ls))
-    (cond (misplaced s r || not (eqb (at m (rank ls x)) 0)) (refused 16 0)
+    cond (not (eqb (at m (rank ls x)) 0)) (refused 16 0)
     (cond (leb (length (s .tasks)) t) (refused 17 t)
-    (cond (not (unfinished ls x t)) finished
-    (bidByte (at m (rank ls y)) (rank ls y) (deviceOf (actionAt s t (at x t)))))))
+    (cond (not (unfinished ls x t)) (given finished)
+    (bidByte (at m (rank ls y)) (rank ls y) (deviceOf (actionAt s t (at x t))))))
 
 -- a grant: that position rises by 1 and the grant number by 1, FFFFFFFF being followed by 0
 abbrev pub grant : Record → ℕ → Record
 grant r t = record { positions = set (r .positions) t (at (r .positions) t + 1); grants = (r .grants + 1) % 0x100000000 }
 
--- whether an answer is Granted
-unfoldable pub isGranted : Answer → Bool
-isGranted granted = true
-isGranted (planned n) = false
-isGranted (routed n) = false
-isGranted restarted = false
-isGranted finished = false
-isGranted (busy d) = false
-isGranted (held r) = false
+-- whether a bid is answered Granted
+unfoldable pub isGranted : Answer Bid → Bool
+isGranted (given granted) = true
+isGranted (given finished) = false
+isGranted (given (busy d)) = false
+isGranted (given (held r)) = false
 isGranted (refused n p) = false
 
 -- without a grant nothing changes
-abbrev pub answered : Record → ℕ → Answer → Served
+abbrev pub answered : Record → ℕ → Answer Bid → Served Bid
 answered r t a = record { answer = a; after = cond (isGranted a) (grant r t) r }
 
--- a refused set changes nothing
-unfoldable pub bidReading : Reading → List ℕ → Record → ℕ → Served
-bidReading (faulty n p) m r t = record { answer = refused n p; after = r }
-bidReading (reads s) m r t = answered r t (bidAnswer s m r t)
-
 -- a bid of task t: words and map are lent with the record
-abbrev pub bid : List ℕ → List ℕ → Record → ℕ → Served
-bid words m r t = bidReading (read words) m r t
+abbrev pub bid : List ℕ → List ℕ → Record → ℕ → Served Bid
+bid words m r t = answered r t (read words then λ s. bidAnswer s m r t)
 
--- again on an accepted set: at the end all positions are 0 and the grant number stays
-unfoldable pub againSet : Set → Record → Served
-againSet s r =
-    let x = stateIn s r in
-    cond (misplaced s r) (record { answer = refused 16 0; after = r })
-    (cond (not (isEnd (lengthsOf s) x)) (record { answer = refused 19 (rank (lengthsOf s) x); after = r })
-    (record { answer = restarted; after = record { positions = replicate 8 0; grants = r .grants } }))
+-- the answer of an again on an accepted set: 16, then 19 before the end
+unfoldable pub againAnswer : Set → Record → Answer Again
+againAnswer s r =
+    placed s r then λ x.
+    let ls = lengthsOf s in
+    cond (not (isEnd ls x)) (refused 19 (rank ls x)) (given restarted)
 
--- a refused set changes nothing
-unfoldable pub againReading : Reading → Record → Served
-againReading (faulty n p) r = record { answer = refused n p; after = r }
-againReading (reads s) r = againSet s r
+-- at the end all positions become 0, and the grant number stays
+abbrev pub restart : Record → Record
+restart r = record { positions = replicate 8 0; grants = r .grants }
 
--- again takes the words and no map
-abbrev pub again : List ℕ → Record → Served
-again words r = againReading (read words) r
+-- again takes the words and no map; a refused one changes nothing
+abbrev pub again : List ℕ → Record → Served Again
+again words r =
+    let a = read words then λ s. againAnswer s r in
+    record { answer = a; after = ifGiven a (λ v. restart r) r }
 
 -- a call of a list: a bid of a task, or an again
 pub data Call : Type 0 where
   bids : ℕ → Call
   agains : Call
 
+-- the record after a list of calls, each given the record as the last one left it, where `serve` gives the record after one call
+unfoldable pub afterList : {R : Type 0} → (R → Call → R) → R → List Call → R
+afterList afterCall r [] = r
+afterList afterCall r (c ∷ cs) = afterList afterCall (afterCall r c) cs
+
+-- how many calls of a list are granted, where `isGrant` tells of one call whether it is
+unfoldable pub grantedIn : {R : Type 0} → (R → Call → R) → (R → Call → Bool) → R → List Call → ℕ
+grantedIn afterCall isGrant r [] = 0
+grantedIn afterCall isGrant r (c ∷ cs) = cond (isGrant r c) 1 0 + grantedIn afterCall isGrant (afterCall r c) cs
+
 module _ (words m : List ℕ) where
-  -- a call on words and map
-  unfoldable pub serve : Record → Call → Served
-  serve r (bids t) = bid words m r t
-  serve r agains = again words r
+  -- the record after a call on words and map
+  unfoldable pub afterCall : Record → Call → Record
+  afterCall r (bids t) = bid words m r t .after
+  afterCall r agains = again words r .after
 
-  -- the record after a list of calls, each given the record as the last one left it
-  unfoldable pub afterCalls : Record → List Call → Record
-  afterCalls r [] = r
-  afterCalls r (c ∷ cs) = afterCalls (serve r c .after) cs
+  -- whether a call is answered Granted: no again is
+  unfoldable pub isGrant : Record → Call → Bool
+  isGrant r (bids t) = isGranted (bid words m r t .answer)
+  isGrant r agains = false
 
-  -- how many bids of the list are answered Granted
-  unfoldable pub grantCount : Record → List Call → ℕ
-  grantCount r [] = 0
-  grantCount r (c ∷ cs) = cond (isGranted (serve r c .answer)) 1 0 + grantCount (serve r c .after) cs
+  -- the record after a list of calls on words and map
+  abbrev pub afterCalls : Record → List Call → Record
+  afterCalls = afterList afterCall
+
+  -- how many of them are answered Granted
+  abbrev pub grantCount : Record → List Call → ℕ
+  grantCount = grantedIn afterCall isGrant
 
 -- a round: a list of bids that names each of n tasks at least once
 abbrev pub IsRound : ℕ → List ℕ → Type 0

@@ -1,7 +1,9 @@
 -- The layout of a set (document 01, "The set"): its words, and which sets are well formed.
 use Prim.Native.Nat.{ℕ, _+_, _*_, _/_, _%_, _<_, _≤_}
+use mathlib.Core.Bool.{cond}
 use mathlib.Core.List.{List, [], _∷_, _++_, map}
 use lib.ListN.{length}
+use lib.Dec.{eqb}
 use Rattle.model.specs.Set.{Action, claim, release, Task, Set, lengthsOf, taskAt, at, size, GoodTask}
 
 -- a word's top four bits are its kind, the low 28 its field
@@ -36,6 +38,10 @@ END = 5
 unfoldable pub actionWord : Action → ℕ
 actionWord (claim d) = word CLAIM d
 actionWord (release d) = word RELEASE d
+
+-- the action of a word that is a CLAIM or a RELEASE
+unfoldable pub actionOf : ℕ → Action
+actionOf w = cond (eqb (kindOf w) CLAIM) (claim (fieldOf w)) (release (fieldOf w))
 
 -- each task: a TASK, then its actions
 unfoldable pub taskWords : List Task → List ℕ

@@ -1,11 +1,13 @@
 -- The definitions, in the order of document 01.
-pub mod Test
+pub mod Below
+pub mod Slice
+pub mod Answer
 pub mod Set
 pub mod Layout
 pub mod Read
-pub mod Declares
 pub mod State
 pub mod Hold
+pub mod Since
 pub mod Run
 pub mod Box
 pub mod Forbidden
@@ -13,7 +15,7 @@ pub mod TaskTable
 pub mod Map
 pub mod UnsafeBoxes
 pub mod Plan
-pub mod Answer
+pub mod Record
 pub mod Analysis
 pub mod Broker
 pub mod Route

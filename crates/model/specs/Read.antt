@@ -4,7 +4,8 @@ use mathlib.Core.Bool.{Bool, true, false, not, cond, _&&_, _||_}
 use mathlib.Core.List.{List, [], _∷_, _++_}
 use lib.ListN.{length}
 use lib.Dec.{eqb, ltb, leb}
-use Rattle.model.specs.Test.{any}
+use Rattle.model.specs.Below.{any}
+use Rattle.model.specs.Answer.{Answer, given, refused}
 use Rattle.model.specs.Set.{Action, claim, release, Task, Set, lengthsOf, size}
 use Rattle.model.specs.Layout.{kindOf, fieldOf, DEVICE, TASK, CLAIM, RELEASE, END}
 
@@ -97,35 +98,34 @@ module _ (s : Scan) where
       0)))))))
 
 -- what a reading answers: the set, or the refusal's number and place
-pub data Reading : Type 0 where
-  reads : Set → Reading
-  faulty : ℕ → ℕ → Reading
+abbrev pub Reading : Type 0
+Reading = Answer Set
 
 -- after n words without a fault: 11 no END, 12 grid over 65,536
 unfoldable pub close : Scan → ℕ → Reading
 close s n =
-    cond (not (s .ended)) (faulty 11 n)
-    (cond (ltb 65536 (size (lengthsOf (s .set)))) (faulty 12 (n - 1))
-    (reads (s .set)))
+    cond (not (s .ended)) (refused 11 n)
+    (cond (ltb 65536 (size (lengthsOf (s .set)))) (refused 12 (n - 1))
+    (given (s .set)))
 
 -- the words from index i on: the first fault counts
 unfoldable pub readFrom : Scan → ℕ → List ℕ → Reading
 readFrom s i [] = close s i
 readFrom s i (w ∷ ws) =
     let n = fault s i (kindOf w) (fieldOf w) in
-    cond (ltb 0 n) (faulty n i) (readFrom (note s (kindOf w) (fieldOf w)) (suc i) ws)
+    cond (ltb 0 n) (refused n i) (readFrom (note s (kindOf w) (fieldOf w)) (suc i) ws)
 
 -- all words: 1 none, 2 over 4,096
 unfoldable pub read : List ℕ → Reading
 read ws =
-    cond (eqb (length ws) 0) (faulty 1 0)
-    (cond (ltb 4096 (length ws)) (faulty 2 4096)
+    cond (eqb (length ws) 0) (refused 1 0)
+    (cond (ltb 4096 (length ws)) (refused 2 4096)
     (readFrom nothingRead 0 ws))
 
 -- the set that accepted words declare
 unfoldable pub setOf : Reading → Set
-setOf (reads s) = s
-setOf (faulty n p) = record { capacities = []; tasks = [] }
+setOf (given s) = s
+setOf (refused n p) = record { capacities = []; tasks = [] }
 
 -- the set that a list of words declares
 abbrev pub setIn : List ℕ → Set

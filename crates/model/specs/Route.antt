@@ -1,15 +1,15 @@
 -- The route (document 01, "Dead states, plan, route, print"; refusals 13, 16, 18, 20, 21).
 use Prim.Native.Nat.{ℕ, zero, suc, _-_}
-use mathlib.Core.Bool.{not, cond, _&&_, _||_}
+use mathlib.Core.Bool.{not, cond, _&&_}
 use mathlib.Core.List.{List, [], _∷_}
 use lib.ListN.{length, replicate}
 use lib.Dec.{eqb, ltb}
-use Rattle.model.specs.Set.{Set, lengthsOf, at, size}
+use Rattle.model.specs.Answer.{Answer, given, refused, _then_, ifGiven}
+use Rattle.model.specs.Set.{Set, lengthsOf, at}
 use Rattle.model.specs.State.{State, next, unfinished, isEnd, sum, rank}
-use Rattle.model.specs.Read.{Reading, reads, faulty, read}
-use Rattle.model.specs.Answer.{Answer, routed, refused}
-use Rattle.model.specs.Analysis.{over}
-use Rattle.model.specs.Broker.{Record, stateIn, misplaced}
+use Rattle.model.specs.Read.{read}
+use Rattle.model.specs.Record.{Record, mapFits, placed}
+use Rattle.model.specs.Slice.{over}
 
 module _ (ls m : List ℕ) where
   -- the smallest task from t on, of k tasks, whose step lands on byte 0; t + k if there is none
@@ -35,41 +35,39 @@ unfoldable pub walked : State → List ℕ → State
 walked x [] = x
 walked x (t ∷ ts) = walked (next x t) ts
 
--- the answer and the route slice afterwards
-pub record Routed : Type 0 where
-  pub answer : Answer
-  pub route : List ℕ
-
--- a refused route fills its slice with 255
-abbrev pub refuse : ℕ → ℕ → List ℕ → Routed
-refuse n p route = record { answer = refused n p; route = replicate (length route) 255 }
-
--- the route from x, an open state by its byte: 18 where the walk stops before the end, 21 where the slice is too short
-unfoldable pub routeFrom : List ℕ → List ℕ → State → List ℕ → Routed
-routeFrom ls m x route =
+-- the route from x, an open state by its byte: 18 where the walk stops before the end
+unfoldable pub routeFrom : List ℕ → List ℕ → State → Answer (List ℕ)
+routeFrom ls m x =
     let ts = stepsFrom ls m x in
     let y = walked x ts in
-    cond (not (isEnd ls y)) (refuse 18 (rank ls y) route)
-    (cond (ltb (length route) (length ts)) (refuse 21 (length ts) route)
-    (record { answer = routed (length ts); route = over ts route }))
+    cond (not (isEnd ls y)) (refused 18 (rank ls y)) (given ts)
 
--- on an accepted set: first the map's length, the record and its own byte
-unfoldable pub routeSet : Set → List ℕ → Record → List ℕ → Routed
-routeSet s m r route =
+-- the route on an accepted set: first the map's length, the record and its own byte
+unfoldable pub routeSteps : Set → List ℕ → Record → Answer (List ℕ)
+routeSteps s m r =
+    mapFits s m then λ grid.
+    placed s r then λ x.
     let ls = lengthsOf s in
-    let x = stateIn s r in
     let b = at m (rank ls x) in
-    cond (ltb (length m) (size ls)) (refuse 13 (size ls) route)
-    (cond (misplaced s r || eqb b 1) (refuse 16 0 route)
-    (cond (ltb 3 b) (refuse 18 (rank ls x) route)
-    (cond (not (eqb b 0)) (refuse 20 (rank ls x) route)
-    (routeFrom ls m x route))))
+    cond (eqb b 1) (refused 16 0)
+    (cond (ltb 3 b) (refused 18 (rank ls x))
+    (cond (not (eqb b 0)) (refused 20 (rank ls x))
+    (routeFrom ls m x)))
 
--- a refused set is a refused route
-unfoldable pub routeReading : Reading → List ℕ → Record → List ℕ → Routed
-routeReading (faulty n p) m r route = refuse n p route
-routeReading (reads s) m r route = routeSet s m r route
+-- 21: a slice shorter than the route; else the route's steps
+unfoldable pub routeFits : List ℕ → List ℕ → Answer (List ℕ)
+routeFits slice ts = cond (ltb (length slice) (length ts)) (refused 21 (length ts)) (given ts)
 
--- a route from the state in a record; words, map and slice are lent
+-- the answer, which is the number of steps, and the route slice afterwards
+pub record Routed : Type 0 where
+  pub answer : Answer ℕ
+  pub route : List ℕ
+
+-- a route from the state in a record; words, map and slice are lent, and a refused route fills its slice with 255
 abbrev pub route : List ℕ → List ℕ → Record → List ℕ → Routed
-route words m r slice = routeReading (read words) m r slice
+route words m r slice =
+    let steps = read words then λ s. routeSteps s m r then λ ts. routeFits slice ts in
+    record {
+      answer = steps then λ ts. given (length ts);
+      route = ifGiven steps (λ ts. over ts slice) (replicate (length slice) 255);
+    }

@@ -15,6 +15,11 @@ unfoldable pub deviceOf : Action → ℕ
 deviceOf (claim d) = d
 deviceOf (release d) = d
 
+-- whether an action is a claim
+unfoldable pub isClaim : Action → Bool
+isClaim (claim d) = true
+isClaim (release d) = false
+
 -- a straight list of actions
 abbrev pub Task : Type 0
 Task = List Action

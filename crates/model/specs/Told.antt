@@ -2,9 +2,10 @@
 use Prim.Native.Nat.{ℕ}
 use mathlib.Core.Bool.{cond}
 use lib.Dec.{eqb}
+use Rattle.model.specs.Answer.{Answer, given, refused}
 use Rattle.model.specs.Set.{lengthsOf, size}
-use Rattle.model.specs.Read.{Reading, reads, faulty}
-use Rattle.model.specs.Answer.{Answer, planned, routed, restarted, granted, finished, busy, held, refused}
+use Rattle.model.specs.Read.{Reading}
+use Rattle.model.specs.Broker.{Bid, granted, finished, busy, held, Again, restarted}
 
 -- a kind, a refusal's number and a value; 0 where there is none
 pub record Told : Type 0 where
@@ -19,30 +20,55 @@ plain k = record { kind = k; refusal = 0; value = 0 }
 abbrev valued : ℕ → ℕ → Told
 valued k v = record { kind = k; refusal = 0; value = v }
 
--- each answer by its kind; a refusal has kind 0, its number, and its place as the value
-unfoldable pub tell : Answer → Told
-tell (refused n p) = record { kind = 0; refusal = n; value = p }
-tell (planned n) = valued 2 n
-tell (routed n) = valued 3 n
-tell granted = plain 4
-tell finished = plain 5
-tell (busy d) = valued 6 d
-tell (held r) = valued 7 r
-tell restarted = plain 8
+-- an answer: a value as its call tells it; a refusal has kind 0, its number, and its place as the value
+unfoldable pub tell : {A : Type 0} → (A → Told) → Answer A → Told
+tell tells (given a) = tells a
+tell tells (refused n p) = record { kind = 0; refusal = n; value = p }
 
--- how a host hears it: the kind tells which answer, the numbers the rest
-unfoldable pub hear : Told → Answer
-hear a =
-    cond (eqb (a .kind) 2) (planned (a .value))
-    (cond (eqb (a .kind) 3) (routed (a .value))
-    (cond (eqb (a .kind) 4) granted
+-- each value of a bid by its kind
+unfoldable pub bidNumbers : Bid → Told
+bidNumbers granted = plain 4
+bidNumbers finished = plain 5
+bidNumbers (busy d) = valued 6 d
+bidNumbers (held r) = valued 7 r
+
+-- a set that is read: kind 1 with its grid
+abbrev pub tellReading : Reading → Told
+tellReading = tell (λ s. valued 1 (size (lengthsOf s)))
+
+-- an analysis, with the number of plan words, and a route, with its length
+abbrev pub tellAnalysis : Answer ℕ → Told
+tellAnalysis = tell (λ n. valued 2 n)
+
+abbrev pub tellRoute : Answer ℕ → Told
+tellRoute = tell (λ n. valued 3 n)
+
+-- a bid and an again
+abbrev pub tellBid : Answer Bid → Told
+tellBid = tell bidNumbers
+
+abbrev pub tellAgain : Answer Again → Told
+tellAgain = tell (λ v. plain 8)
+
+-- how a host hears an answer: kind 0 as a refusal, any other kind as a value of the call that it made
+unfoldable pub hear : {A : Type 0} → (Told → A) → Told → Answer A
+hear hears a = cond (eqb (a .kind) 0) (refused (a .refusal) (a .value)) (given (hears a))
+
+-- of a bid the kind tells which value
+unfoldable pub bidHeard : Told → Bid
+bidHeard a =
+    cond (eqb (a .kind) 4) granted
     (cond (eqb (a .kind) 5) finished
     (cond (eqb (a .kind) 6) (busy (a .value))
-    (cond (eqb (a .kind) 7) (held (a .value))
-    (cond (eqb (a .kind) 8) restarted
-    (refused (a .refusal) (a .value))))))))
+    (held (a .value))))
 
--- a set that is read: kind 1 with its grid; one that is refused, as every refusal
-unfoldable pub tellReading : Reading → Told
-tellReading (reads s) = valued 1 (size (lengthsOf s))
-tellReading (faulty n p) = tell (refused n p)
+-- an analysis or a route: the number
+abbrev pub hearNumber : Told → Answer ℕ
+hearNumber = hear (λ a. a .value)
+
+-- a bid and an again
+abbrev pub hearBid : Told → Answer Bid
+hearBid = hear bidHeard
+
+abbrev pub hearAgain : Told → Answer Again
+hearAgain = hear (λ a. restarted)

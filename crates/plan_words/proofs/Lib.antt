@@ -1,3 +1,5 @@
 pub mod Write
 pub mod After
+pub mod UpTo
 pub mod Run
+pub mod Back

@@ -1,12 +1,14 @@
 -- A loop that writes what f gives for each number below count, one after the other: one law for every such loop.
-use mathlib.Core.Path.{_≡_, refl, sym, ap, subst₂, _∙_}
-use mathlib.Core.List.{List, [], _++_}
+use mathlib.Core.Path.{_≡_, refl, sym, ap, subst, _∙_}
+use mathlib.Core.List.{List, [], _∷_, _++_}
 use Prim.Native.Nat.{ℕ, suc, _+_, _-_, _≤_, _<_}
+use native.Mathlib.Nat.{sub-zero}
 use native.Mathlib.Omega.{arith}
-use lib.ListN.{length, length-append}
+use lib.ListN.{length, set, length-append}
 use Rattle.plan_words.specs.declared.Placed.{Placed}
 use Rattle.plan_words.specs.Words.{write, Wrote, upTo}
-use Rattle.plan_words.proofs.Write.{Fits, length-write, write-none, write-then, wrote-next, wrote-full}
+use Rattle.plan_words.proofs.Write.{Fits, length-write, write-none, write-then, wrote-next, wrote-full, read-next, read-full}
+use Rattle.plan_words.proofs.After.{wrote-one}
 
 module _ (f : ℕ → List ℕ) (p₀ : List ℕ) (at count : ℕ) where
   -- what is to write at the i-th number
@@ -23,9 +25,6 @@ module _ (f : ℕ → List ℕ) (p₀ : List ℕ) (at count : ℕ) where
 
   pub begins : at ≤ length p₀ → Turn p₀ at 0
   begins h = record { within = omega arith; same = refl; room = h; sum = refl; words = λ _. refl }
-
-  pub moved : {p p′ : List ℕ} {to to′ i : ℕ} → p′ ≡ p → to′ ≡ to → Turn p to i → Turn p′ to′ i
-  moved {p} {p′} {to} {to′} {i} e k now = subst₂ (λ (x : List ℕ) (y : ℕ). Turn x y i) (sym e) (sym k) now
 
   -- what is left, one number further
   next : (i : ℕ) → i < count → rest i ≡ f i ++ rest (i + 1)
@@ -57,6 +56,10 @@ module _ (f : ℕ → List ℕ) (p₀ : List ℕ) (at count : ℕ) where
               ∙ ap (write p to) (sym (next i h)) ∙ now .words g;
         }
 
+    -- one word, in its place
+    pub stored-one : {v : ℕ} → f i ≡ v ∷ [] → to < length p → Turn (set p to v) (to + 1) (i + 1)
+    stored-one {v} e g = stored (rw e (read-next (wrote-one {v = v} g)))
+
     -- the i-th number gives nothing
     pub skipped : f i ≡ [] → Turn p to (i + 1)
     skipped e =
@@ -73,9 +76,22 @@ module _ (f : ℕ → List ℕ) (p₀ : List ℕ) (at count : ℕ) where
     pub overflows : {q : List ℕ} → length p < to + length (f i) → Wrote p₀ at (rest 0) Placed.Full q
     overflows w = wrote-full (omega (arith, split))
 
+    -- the two by the answer of a call that was to write it
+    pub placed : {x : Placed} {r : ℕ} {q : List ℕ} → Wrote p to (f i) x q → x ≡ Placed.Next r → Turn q r (i + 1)
+    placed {x} {r} {q} w e = stored (read-next (subst (λ (y : Placed). Wrote p to (f i) y q) e w))
+
+    pub full : {x : Placed} {q q′ : List ℕ} → Wrote p to (f i) x q → x ≡ Placed.Full → Wrote p₀ at (upTo count 0 f) Placed.Full q′
+    full {x} {q} {q′} w e =
+        subst (λ (k : ℕ). Wrote p₀ at (upTo k 0 f) Placed.Full q′) (sub-zero count)
+        (overflows (read-full (subst (λ (y : Placed). Wrote p to (f i) y q) e w)))
+
   pub ends : {p : List ℕ} {to i : ℕ} → Turn p to i → count ≤ i → Wrote p₀ at (rest 0) (Placed.Next to) p
   ends {p} {to} {i} now h =
       let s : rest i ≡ [] = none i h in
       let k : length (rest i) ≡ 0 = ap length s in
       let g : at + length (rest 0) ≤ length p₀ = omega arith in
       wrote-next g (omega arith) (sym (write-none p to (omega arith)) ∙ ap (write p to) (sym s) ∙ now .words g)
+
+  -- after the last number all is written
+  pub finished : {p : List ℕ} {to i : ℕ} → Turn p to i → count ≤ i → Wrote p₀ at (upTo count 0 f) (Placed.Next to) p
+  finished {p} {to} {i} now h = subst (λ (k : ℕ). Wrote p₀ at (upTo k 0 f) (Placed.Next to) p) (sub-zero count) (ends now h)

@@ -7,12 +7,13 @@ use native.Mathlib.Nat.{add-zero, le-of-suc-le-suc, not-suc-le-zero}
 use native.Mathlib.Omega.{arith}
 use lib.ListN.{length, getD, set, length-append, length-map}
 use lib.Dec.{eqb}
-use Rattle.model.specs.Test.{tabulate}
+use Rattle.model.specs.Below.{tabulate}
 use Rattle.model.specs.Set.{Action, claim, release, Task, lengths}
 use Rattle.model.specs.Layout.{taskWords}
 use Rattle.model.specs.Read.{lastTask, addAction, heldAfter}
 use Rattle.model.proofs.Held.{held-append}
-use Rattle.reader.specs.Answer.{padded, startsFrom}
+use Rattle.shape.specs.ShapeOf.{padded, startsFrom}
+use Rattle.shape.proofs.Read.{length-starts}
 use Rattle.reader.proofs.Arrays.{padded-add, padded-zero}
 
 -- ---- one more task, which has no action yet
@@ -27,11 +28,6 @@ pub words-open : (ts : List Task) → length (taskWords (ts ++ ([] ∷ []))) ≡
 unfolding taskWords
 words-open [] = refl
 words-open (t ∷ ts) = simp (length-append, length-map) (omega (arith, words-open ts))
-
-pub length-starts : (n : ℕ) (ts : List Task) → length (startsFrom n ts) ≡ length ts
-unfolding startsFrom
-length-starts n [] = refl
-length-starts n (t ∷ ts) = ap suc (length-starts (n + 1 + length t) ts)
 
 starts-open : (n : ℕ) (ts : List Task) → startsFrom n (ts ++ ([] ∷ [])) ≡ startsFrom n ts ++ ((n + length (taskWords ts) + 1) ∷ [])
 unfolding startsFrom taskWords

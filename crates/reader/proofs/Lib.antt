@@ -1,7 +1,9 @@
--- The laws of the reader.
+-- The laws of the reader. Facts: what its answer tells every caller.
+pub mod Held
 pub mod Arrays
 pub mod LastTask
+pub mod FaultLaws
 pub mod Steps
-pub mod Kept
-pub mod Facts
 pub mod Going
+pub mod Ending
+pub mod Facts

@@ -1,89 +1,105 @@
 -- How the code's scan follows the model's word by word: for the contracts of the reader's own functions.
-use Prim.Native.Nat.{ℕ, _+_, _-_, _≤_}
+use Prim.Native.Nat.{ℕ, _+_, _-_, _<_, _≤_}
 use mathlib.Core.Path.{_≡_}
-use mathlib.Core.Bool.{Bool, false, cond}
+use mathlib.Core.Bool.{Bool, true, false, cond}
 use mathlib.Core.List.{List}
 use lib.ListN.{length, set, drop, replicate}
-use lib.Dec.{ltb}
-use Rattle.model.specs.Test.{tabulate}
-use Rattle.model.specs.Set.{at}
-use Rattle.model.specs.Layout.{taskWords}
-use Rattle.model.specs.Read.{fault, note, holdsNow, readFrom}
+use Rattle.model.specs.Below.{tabulate}
+use Rattle.model.specs.Set.{lengthsOf, at, size}
+use Rattle.model.specs.Layout.{kindOf, fieldOf, DEVICE, TASK, CLAIM, RELEASE, END, taskWords}
+use Rattle.model.specs.Answer.{refused}
+use Rattle.model.specs.Read.{holdsNow, readFrom}
 use Rattle.model.specs.Read as model
-use Rattle.reader.specs.declared.Shape.{Shape}
+use Rattle.shape.specs.ShapeOf.{padded, startsFrom, weightsOf}
 use Rattle.reader.specs.declared.scan.Scan.{Scan}
-use Rattle.reader.specs.declared.scan.Step.{Step}
+use Rattle.reader.specs.declared.weights.Weights.{Weights}
+use Rattle.reader.specs.declared.words.Words.{Words}
 use Rattle.reader.specs.declared.Reading.{Reading}
-use Rattle.reader.specs.Answer.{shapeOf, answer}
+use Rattle.reader.specs.Answer.{answer}
+use Rattle.reader.specs.Faults.{deviceFault, taskFault, actionFault, wordFault}
+
+-- a scan by its parts
+abbrev pub scanned : ℕ → List ℕ → ℕ → List ℕ → List ℕ → List Bool → Scan
+scanned devices capacities tasks lengths starts held =
+    record { devices = devices; capacities = capacities; tasks = tasks; lengths = lengths; starts = starts; held = held }
 
 -- the code's scan for a scan of the model
 abbrev pub scanOf : model.Scan → Scan
-scanOf m = record { shape = shapeOf (m .set); held = tabulate 16 (holdsNow m); ended = m .ended }
+scanOf m =
+    let cs = m .set .capacities in
+    let ts = m .set .tasks in
+    scanned (length cs) (padded 16 cs) (length ts) (padded 8 (lengthsOf (m .set))) (padded 8 (startsFrom (length cs) ts)) (tabulate 16 (holdsNow m))
 
--- what holds of each scan after i words without a fault: the limits, the number of words before END, and that the open task holds declared devices only
-pub record Sound (m : model.Scan) (i : ℕ) : Type 0 where
+-- what holds of each scan after i words without a fault and before END: the limits, the number of words, and that the open task holds declared devices only
+pub record Limits (m : model.Scan) (i : ℕ) : Type 0 where
+  pub running : m .ended ≡ false
   pub devices : length (m .set .capacities) ≤ 16
   pub tasks : length (m .set .tasks) ≤ 8
-  pub words : m .ended ≡ false → i ≡ length (m .set .capacities) + length (taskWords (m .set .tasks))
+  pub words : i ≡ length (m .set .capacities) + length (taskWords (m .set .tasks))
   pub declared : (d : ℕ) → length (m .set .capacities) ≤ d → holdsNow m d ≡ false
 
--- the model's fault of a word, and the scan after it, which a fault leaves as it was
-unfoldable pub stepOf : model.Scan → ℕ → ℕ → ℕ → Step
-stepOf m i k f = let n = fault m i k f in record { fault = n; next = cond (ltb 0 n) (scanOf m) (scanOf (note m k f)) }
-
--- the step to a scan of this shape
-abbrev pub advanced : Shape → List Bool → Bool → Step
-advanced shape held ended = record { fault = 0; next = record { shape = shape; held = held; ended = ended } }
-
--- the step r from s is the model's, for the word of kind k and field f at index i
-abbrev pub FollowsAt : ℕ → Scan → ℕ → ℕ → Step → Type 0
-FollowsAt i s k f r = (m : model.Scan) → Sound m i → s ≡ scanOf m → r ≡ stepOf m i k f
-
--- the same, whatever the index
-abbrev pub Follows : Scan → ℕ → ℕ → Step → Type 0
-Follows s k f r = (i : ℕ) → FollowsAt i s k f r
-
--- the answer r after n words without a fault is the model's
-abbrev pub Closes : Scan → ℕ → Reading → Type 0
-Closes s n r = (m : model.Scan) → length (m .set .tasks) ≤ 8 → s ≡ scanOf m → r ≡ answer (model.close m n)
-
--- the counts stay within the arrays
-pub record Bounded (s : Scan) : Type 0 where
-  pub devices : s .shape .devices ≤ 16
-  pub tasks : s .shape .tasks ≤ 8
-
--- i words led to s without a fault, and reading the others from there gives the answer
+-- i words led to s without a fault and without END, and reading the others from there gives the answer
 pub record Reached (ws : List ℕ) (s : Scan) (i : ℕ) : Type 0 where
   pub scan : model.Scan
-  pub sound : Sound scan i
+  pub limits : Limits scan i
   pub same : s ≡ scanOf scan
   pub rest : model.read ws ≡ readFrom scan i (drop i ws)
   pub within : i ≤ length ws
 
--- the scan of this shape while END has not come
-abbrev pub beforeEnd : Shape → List Bool → Scan
-beforeEnd shape held = record { shape = shape; held = held; ended = false }
+-- so many devices, and no task yet
+abbrev pub noTasks : ℕ → List ℕ → Scan
+noTasks devices capacities = scanned devices capacities 0 (replicate 8 0) (replicate 8 0) (replicate 16 false)
 
--- a shape by its parts
-abbrev pub shaped : ℕ → List ℕ → ℕ → List ℕ → List ℕ → Shape
-shaped devices capacities tasks actions starts =
-    record { devices = devices; capacities = capacities; tasks = tasks; actions = actions; starts = starts }
+-- the scan whose last task has c actions and then holds these devices
+abbrev pub counted : Scan → ℕ → List Bool → Scan
+counted s c held = scanned (s .devices) (s .capacities) (s .tasks) (set (s .lengths) (s .tasks - 1) c) (s .starts) held
 
--- one that has no tasks yet
-abbrev pub noTasks : ℕ → List ℕ → Shape
-noTasks devices capacities = shaped devices capacities 0 (replicate 8 0) (replicate 8 0)
+-- i words led to the opening of the last of so many tasks, with so many devices
+pub record Opened (ws : List ℕ) (s : Scan) (devices tasks : ℕ) (held : List Bool) (i : ℕ) : Type 0 where
+  pub reached : Reached ws s i
+  pub some : 1 ≤ s .tasks
+  pub device-count : devices ≡ s .devices
+  pub task-count : tasks ≡ s .tasks
+  pub holds : held ≡ s .held
+  pub none : at (s .lengths) (s .tasks - 1) ≡ 0
 
--- no device held
-abbrev pub noneHeld : List Bool
-noneHeld = replicate 16 false
+-- why the devices stop at index i: the word there, if there is one, is no DEVICE or has a fault
+abbrev pub NoDevice : List ℕ → ℕ → ℕ → ℕ → Type 0
+NoDevice ws devices tasks i = i < length ws → kindOf (at ws i) ≡ DEVICE → 0 < deviceFault devices tasks (fieldOf (at ws i))
 
--- the shape whose last task has c actions
-abbrev pub counted : Shape → ℕ → Shape
-counted shape c = shaped (shape .devices) (shape .capacities) (shape .tasks) (set (shape .actions) (shape .tasks - 1) c) (shape .starts)
+-- why the tasks do: it is no TASK or has a fault
+abbrev pub NoTask : List ℕ → ℕ → List Bool → ℕ → Type 0
+NoTask ws tasks held i = i < length ws → kindOf (at ws i) ≡ TASK → 0 < taskFault tasks held (fieldOf (at ws i))
 
--- i words led to the opening of the last task of this shape, which has so many devices
-pub record Opened (ws : List ℕ) (shape : Shape) (held : List Bool) (devices i : ℕ) : Type 0 where
-  pub reached : Reached ws (beforeEnd shape held) i
-  pub some : 1 ≤ shape .tasks
-  pub named : devices ≡ shape .devices
-  pub none : at (shape .actions) (shape .tasks - 1) ≡ 0
+-- why the actions do: it is no CLAIM (b) and no RELEASE, or has a fault
+abbrev pub NoAction : List ℕ → ℕ → ℕ → ℕ → List Bool → ℕ → Type 0
+NoAction ws devices tasks l held i =
+    i < length ws → (b : Bool) → kindOf (at ws i) ≡ cond b CLAIM RELEASE → 0 < actionFault devices tasks l held b (fieldOf (at ws i))
+
+-- why all of them do: it is END or has a fault
+abbrev pub Stops : List ℕ → Scan → ℕ → Type 0
+Stops ws s i = i < length ws → (kindOf (at ws i) ≡ END → ⊥) → 0 < wordFault s i (kindOf (at ws i)) (fieldOf (at ws i))
+
+-- the words led to s without a fault, END the last of them, and closing the model's scan gives the answer
+pub record Ended (ws : List ℕ) (s : Scan) : Type 0 where
+  pub scan : model.Scan
+  pub ended : scan .ended ≡ true
+  pub tasks : length (scan .set .tasks) ≤ 8
+  pub same : s ≡ scanOf scan
+  pub rest : model.read ws ≡ model.close scan (length ws)
+  pub some : 0 < length ws
+
+-- what all words come to: the first fault, or a whole set
+pub record ReadsAll (ws : List ℕ) (r : Words) : Type 0 where
+  pub stopped : 0 < r .fault → model.read ws ≡ refused (r .fault) (r .place)
+  pub whole : r .fault ≤ 0 → Ended ws (r .scan)
+
+-- the grid of the action counts ls and the weights of their tasks, or a grid over 65,536 if theirs is
+pub record Weighs (ls : List ℕ) (w : Weights) : Type 0 where
+  pub over : 65536 < w .grid → 65536 < size ls
+  pub grid : w .grid ≤ 65536 → w .grid ≡ size ls
+  pub weights : w .grid ≤ 65536 → w .of ≡ padded 8 (weightsOf ls)
+
+-- the answer r after n words without a fault, END the last of them, is the model's
+abbrev pub Closes : Scan → ℕ → Reading → Type 0
+Closes s n r = (m : model.Scan) → m .ended ≡ true → length (m .set .tasks) ≤ 8 → s ≡ scanOf m → r ≡ answer (model.close m n)

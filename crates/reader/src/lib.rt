@@ -1,63 +1,53 @@
-// Reads a set of devices and tasks from its words, or refuses it at the first faulty word.
+// Reads a set of devices and tasks from its words, or refuses it at the first word with a fault.
+mod faults;
+mod rules;
 mod run;
 mod scan;
-mod word;
+mod weights;
+mod words;
 
 ghost use mathlib.Core.Path.{_≡_};
-ghost use Prim.Native.Nat.{_<_, min};
-ghost use Rattle.model.specs.Set.{size};
-ghost use Rattle.model.specs.Read.{faulty};
+ghost use Prim.Native.Nat.{_<_, _≤_};
+ghost use Rattle.model.specs.Answer.{refused};
+ghost use Rattle.model.specs.Read.{nothingRead};
 ghost use Rattle.model.specs.Read as model;
+ghost use Rattle.shape.specs.ShapeOf.{shapeOf};
 ghost use Rattle.reader.specs.Answer.{answer};
 ghost use Rattle.reader.specs.Follow.{Closes};
 use scan::Scan;
-
-// What stands for every larger grid.
-const OVER_GRID: u32 = model::MAX_GRID + 1;
-
-// What an accepted set declares. Entries past the counts are 0.
-pub struct Shape {
-    pub devices: usize,
-    pub capacities: [u8; model::MAX_DEVICES],
-    pub tasks: usize,
-    // Action count of each task.
-    pub actions: [u8; model::MAX_TASKS],
-    // Index of the word after each TASK, where the task's actions start.
-    pub starts: [usize; model::MAX_TASKS],
-}
+use shape::Shape;
 
 pub enum Verdict {
-    Accepted { grid: u32 },
+    Accepted,
     Refused { number: u8, place: usize },
 }
 
-// The answer. A refused set has the empty shape.
+// The answer. A refused set has the shape of the empty one.
 pub struct Reading {
     pub verdict: Verdict,
     pub shape: Shape,
 }
 
-// The grid, or OVER_GRID where it is larger.
-fn grid_of(actions: [u8; model::MAX_TASKS]) -> u32
-    ensures { λ r. ⌜ r ≡ min 65537 (size actions) ⌝ }
+// The shape of a set with no device and no task, which has one state.
+fn no_shape() -> Shape
+    ensures { λ r. ⌜ r ≡ shapeOf (nothingRead .set) ⌝ }
 {
-    let mut g = 1;
-    let mut i = 0;
-    while i < model::MAX_TASKS {
-        g = g * (actions[i] as u32 + 1);
-        if model::MAX_GRID < g {
-            return OVER_GRID;
-        }
-        i += 1;
+    Shape {
+        devices: 0,
+        capacities: [0; model::MAX_DEVICES],
+        tasks: 0,
+        lengths: [0; model::MAX_TASKS],
+        starts: [0; model::MAX_TASKS],
+        weights: [0; model::MAX_TASKS],
+        grid: 1,
     }
-    g
 }
 
 // A refusal at a place.
 fn refuse(number: u8, place: usize) -> Reading
-    ensures { λ r. ⌜ r ≡ answer (faulty number place) ⌝ }
+    ensures { λ r. ⌜ r ≡ answer (refused number place) ⌝ }
 {
-    let shape = scan::no_shape();
+    let shape = no_shape();
     let verdict = Verdict::Refused {
         number: number,
         place: place,
@@ -68,21 +58,30 @@ fn refuse(number: u8, place: usize) -> Reading
     }
 }
 
-// The answer after n words with no fault.
+// The answer after n words without a fault, the last of which is END: refusal 12, or the set's shape.
 fn close(s: Scan, n: usize) -> Reading
-    requires { ⌜ 0 < n ⌝ }
+    requires { ⌜ (0 < n) × (s .tasks ≤ 8) ⌝ }
     ensures { λ r. ⌜ Closes s n r ⌝ }
 {
-    if !s.ended {
-        return refuse(model::NO_END, n);
-    }
-    let shape = s.shape;
-    let actions = shape.actions;
-    let grid = grid_of(actions);
-    if model::MAX_GRID < grid {
+    let capacities = s.capacities;
+    let lengths = s.lengths;
+    let starts = s.starts;
+    let weighed = weights::weigh(s.tasks, lengths);
+    let grid = weighed.grid;
+    let weights = weighed.of;
+    if weights::MAX_GRID < grid {
         return refuse(model::GRID_TOO_LARGE, n - 1);
     }
-    let verdict = Verdict::Accepted { grid: grid };
+    let verdict = Verdict::Accepted;
+    let shape = Shape {
+        devices: s.devices,
+        capacities: capacities,
+        tasks: s.tasks,
+        lengths: lengths,
+        starts: starts,
+        weights: weights,
+        grid: grid,
+    };
     Reading {
         verdict: verdict,
         shape: shape,
@@ -93,24 +92,9 @@ fn close(s: Scan, n: usize) -> Reading
 pub fn read(words: &[u32]) -> Reading
     ensures { λ r. ⌜ r ≡ answer (model.read (now (words .entry))) ⌝ }
 {
-    let n = words.len();
-    if n == 0 {
-        return refuse(model::NO_WORDS, 0);
+    let all = words::read_words(words);
+    if faults::NO_FAULT < all.fault {
+        return refuse(all.fault, all.place);
     }
-    if model::MAX_WORDS < n {
-        return refuse(model::TOO_MANY_WORDS, model::MAX_WORDS);
-    }
-    let run = run::read_runs(words);
-    let mut s = run.scan;
-    let mut i = run.index;
-    while i < n {
-        let t = word::read_word(s, i, words[i]);
-        let fault = t.fault;
-        if scan::NO_FAULT < fault {
-            return refuse(fault, i);
-        }
-        s = t.next;
-        i += 1;
-    }
-    close(s, n)
+    close(all.scan, words.len())
 }

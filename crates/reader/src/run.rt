@@ -1,12 +1,13 @@
-// Words in a row that have no fault, which mostly all but END are. They are noted in arrays of their own, so that no word copies what was read before it.
+// Words in a row that have no fault: all but END, in a set without one. They are noted in arrays of their own, so that no word copies what was read before it.
 ghost use mathlib.Core.List.{List};
+ghost use mathlib.Core.Path.{_≡_};
 ghost use Prim.Native.Nat.{ℕ, _-_, _≤_};
+ghost use Rattle.model.specs.Set.{at};
 ghost use Rattle.model.specs.Read.{nothingRead};
-ghost use Rattle.reader.specs.declared.Shape.{Shape};
-ghost use Rattle.reader.specs.Follow.{scanOf, Reached, beforeEnd, counted, Opened, noTasks, noneHeld, shaped};
-use crate::Shape;
+ghost use Rattle.reader.specs.declared.scan.Scan.{Scan};
+ghost use Rattle.reader.specs.Follow.{scanOf, Reached, scanned, noTasks, counted, Opened, NoDevice, NoTask, NoAction, Stops};
+use crate::faults;
 use crate::scan::Scan;
-use crate::scan::holding;
 
 // What was read in a row: the scan after it, and the index of the next word.
 pub(crate) struct Run {
@@ -22,17 +23,17 @@ pub(crate) struct Tasks {
 
 // The DEVICEs that the words start with, up to a word that is none or has a fault. Their capacities are noted; the answer is how many they are.
 fn read_devices(words: &[u32], capacities: &mut [u8; model::MAX_DEVICES]) -> usize
-    requires { ⌜ Reached (now words) (beforeEnd (noTasks 0 (now capacities)) noneHeld) 0 ⌝ }
-    ensures { λ r. ⌜ Reached (now (words .entry)) (beforeEnd (noTasks r (now (capacities .exit))) noneHeld) r ⌝ }
+    requires { ⌜ Reached (now words) (noTasks 0 (now capacities)) 0 ⌝ }
+    ensures { λ r. ⌜ Reached (now (words .entry)) (noTasks r (now (capacities .exit))) r × NoDevice (now (words .entry)) r 0 r ⌝ }
 {
     let mut i = 0;
     while i < words.len() {
         let word = words[i];
-        let capacity = word % model::FIELDS;
-        if word / model::FIELDS != model::DEVICE || capacity < 1 {
+        if set_words::kind(word) != model::DEVICE {
             return i;
         }
-        if model::MAX_CAPACITY < capacity || model::MAX_DEVICES <= i {
+        let capacity = set_words::field(word);
+        if faults::NO_FAULT < faults::device_fault(i, 0, capacity) {
             return i;
         }
         capacities[i] = capacity as u8;
@@ -47,25 +48,27 @@ fn read_actions(
     words: &[u32],
     from: usize,
     devices: usize,
+    tasks: usize,
     held: &mut [bool; model::MAX_DEVICES],
 ) -> usize
-    requires { ⌜ ((shape : Shape) × Opened (now words) shape (now held) devices from) ⌝ }
-    ensures { λ r. ⌜ (from ≤ r) × (r - from ≤ 255) × ((shape : Shape) → Opened (now (words .entry)) shape (now (held .entry)) devices from
-        → Reached (now (words .entry)) (beforeEnd (counted shape (r - from)) (now (held .exit))) r) ⌝ }
+    requires { ⌜ ((s : Scan) × Opened (now words) s devices tasks (now held) from) ⌝ }
+    ensures { λ r. ⌜ (from ≤ r) × (r - from ≤ 255) × NoAction (now (words .entry)) devices tasks (r - from) (now (held .exit)) r
+        × ((s : Scan) → Opened (now (words .entry)) s devices tasks (now (held .entry)) from
+        → Reached (now (words .entry)) (counted s (r - from) (now (held .exit))) r) ⌝ }
 {
     let mut i = from;
     while i < words.len() {
         let word = words[i];
-        let kind = word / model::FIELDS;
-        let device = (word % model::FIELDS) as usize;
+        let kind = set_words::kind(word);
+        if kind < model::CLAIM || model::RELEASE < kind {
+            return i;
+        }
         let claim = kind == model::CLAIM;
-        if kind < model::CLAIM || model::RELEASE < kind || devices <= device {
+        let device = set_words::field(word);
+        if faults::NO_FAULT < faults::action_fault(devices, tasks, i - from, held, claim, device) {
             return i;
         }
-        if model::MAX_ACTIONS as usize <= i - from || held[device] == claim {
-            return i;
-        }
-        held[device] = claim;
+        held[device as usize] = claim;
         i += 1;
     }
     i
@@ -77,29 +80,31 @@ fn read_tasks(
     words: &[u32],
     from: usize,
     devices: usize,
-    actions: &mut [u8; model::MAX_TASKS],
+    lengths: &mut [u8; model::MAX_TASKS],
     starts: &mut [usize; model::MAX_TASKS],
     held: &mut [bool; model::MAX_DEVICES],
 ) -> Tasks
-    requires { ⌜ ((capacities : List ℕ) × Reached (now words) (beforeEnd (shaped devices capacities 0 (now actions) (now starts)) (now held)) from) ⌝ }
-    ensures { λ r. ⌜ ((capacities : List ℕ)
-        → Reached (now (words .entry)) (beforeEnd (shaped devices capacities 0 (now (actions .entry)) (now (starts .entry))) (now (held .entry))) from
-        → Reached (now (words .entry)) (beforeEnd (shaped devices capacities (r .count) (now (actions .exit)) (now (starts .exit))) (now (held .exit))) (r .index)) ⌝ }
+    requires { ⌜ ((capacities : List ℕ) × Reached (now words) (scanned devices capacities 0 (now lengths) (now starts) (now held)) from) ⌝ }
+    ensures { λ r. ⌜ (r .count ≡ 0 → r .index ≡ from) × NoTask (now (words .entry)) (r .count) (now (held .exit)) (r .index)
+        × NoAction (now (words .entry)) devices (r .count) (at (now (lengths .exit)) (r .count - 1)) (now (held .exit)) (r .index)
+        × ((capacities : List ℕ)
+        → Reached (now (words .entry)) (scanned devices capacities 0 (now (lengths .entry)) (now (starts .entry)) (now (held .entry))) from
+        → Reached (now (words .entry)) (scanned devices capacities (r .count) (now (lengths .exit)) (now (starts .exit)) (now (held .exit))) (r .index)) ⌝ }
 {
     let mut tasks = 0;
     let mut i = from;
     while i < words.len() {
         let word = words[i];
-        if word / model::FIELDS != model::TASK || 0 < word % model::FIELDS {
+        if set_words::kind(word) != model::TASK {
             break;
         }
-        if model::MAX_TASKS <= tasks || holding(*held) {
+        if faults::NO_FAULT < faults::task_fault(tasks, held, set_words::field(word)) {
             break;
         }
         let first = i + 1;
         starts[tasks] = first;
-        i = read_actions(words, first, devices, held);
-        actions[tasks] = (i - first) as u8;
+        i = read_actions(words, first, devices, tasks + 1, held);
+        lengths[tasks] = (i - first) as u8;
         tasks += 1;
     }
     Tasks {
@@ -108,13 +113,13 @@ fn read_tasks(
     }
 }
 
-// Devices and tasks, as far as they have no fault. Without one only END is left.
+// Devices and tasks, up to END or a fault.
 pub(crate) fn read_runs(words: &[u32]) -> Run
     requires { ⌜ Reached (now words) (scanOf nothingRead) 0 ⌝ }
-    ensures { λ r. ⌜ Reached (now (words .entry)) (r .scan) (r .index) ⌝ }
+    ensures { λ r. ⌜ Reached (now (words .entry)) (r .scan) (r .index) × Stops (now (words .entry)) (r .scan) (r .index) ⌝ }
 {
     let mut capacities = [0u8; model::MAX_DEVICES];
-    let mut actions = [0u8; model::MAX_TASKS];
+    let mut lengths = [0u8; model::MAX_TASKS];
     let mut starts = [0usize; model::MAX_TASKS];
     let mut held = [false; model::MAX_DEVICES];
     let devices = read_devices(words, &mut capacities);
@@ -122,21 +127,17 @@ pub(crate) fn read_runs(words: &[u32]) -> Run
         words,
         devices,
         devices,
-        &mut actions,
+        &mut lengths,
         &mut starts,
         &mut held,
     );
-    let shape = Shape {
+    let scan = Scan {
         devices: devices,
         capacities: capacities,
         tasks: tasks.count,
-        actions: actions,
+        lengths: lengths,
         starts: starts,
-    };
-    let scan = Scan {
-        shape: shape,
         held: held,
-        ended: false,
     };
     Run {
         index: tasks.index,

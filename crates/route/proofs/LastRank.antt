@@ -10,7 +10,7 @@ use lib.Dec.{ltb}
 use borrow.Author.Tests.{ltb-false, lt-ltb, le-ltb}
 use Rattle.model.specs.Set.{at, size}
 use Rattle.model.specs.State.{State, next, unfinished, isEnd, rank, InGrid}
-use Rattle.model.proofs.Tests.{by-test}
+use Rattle.model.proofs.Bools.{by-bool}
 use Rattle.model.proofs.States.{unfinished-task, not-end, end-finished, next-grid}
 use Rattle.model.proofs.Ranks.{weight-pos, rank-lt, rank-next}
 
@@ -23,12 +23,12 @@ module _ (ls : List ℕ) (x : State) (g : InGrid ls x) where
   -- at the end every position is its task's action count
   end-is : isEnd ls x ≡ true → x ≡ ls
   end-is e = ext-getD 0 x ls (g .count) λ t h.
-      le-antisymm (g .fits t) (by-test (unfinished ls x t) (λ u. absurd (end-finished ls x e t u)) (ltb-false (at x t) (at ls t)))
+      le-antisymm (g .fits t) (by-bool (unfinished ls x t) (λ u. absurd (end-finished ls x e t u)) (ltb-false (at x t) (at ls t)))
 
   -- a state is not the end exactly if there is a rank after its own
   pub before-end : not (isEnd ls x) ≡ ltb (rank ls x + 1) (size ls)
   before-end =
-      by-test (isEnd ls x)
+      by-bool (isEnd ls x)
       (λ e. rw (e, end-is e) (sym (le-ltb (rank ls ls + 1) (size ls) (omega (arith, last ls)))))
       (λ e.
       let r = not-end ls x e in

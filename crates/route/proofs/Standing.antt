@@ -14,53 +14,49 @@ use Rattle.model.specs.State.{State, next, unfinished, rank}
 use Rattle.model.proofs.States.{next-grid}
 use Rattle.model.proofs.Ranks.{rank-lt, rank-next}
 use Rattle.model.proofs.Moves.{moves}
-use Rattle.route.specs.Walks.{Stands}
+use Rattle.route.specs.Walks.{OnGrid}
 
-module _ (map : List ℕ) (n : ℕ) (actions weights positions : List ℕ) (r : ℕ) (s : Stands map n actions weights positions r) where
+module _ (map : List ℕ) (n : ℕ) (lengths weights positions : List ℕ) (r : ℕ) (s : OnGrid map n lengths weights positions r) where
   abbrev ls : List ℕ
-  ls = take n actions
+  ls = take n lengths
 
   abbrev x : State
   x = take n positions
 
-  pub tasks-counted : length (take n actions) ≡ n
-  tasks-counted = length-take-le n actions (omega (arith, s .tasks, s .actions-all))
-
-  -- the state's own byte stands in the map
-  pub rank-room : r < length map
-  rank-room = omega (arith, s .is-rank, rank-lt ls x (s .grid), s .room)
+  pub tasks-counted : length (take n lengths) ≡ n
+  tasks-counted = length-take-le n lengths (omega (arith, s .tasks, s .lengths-all))
 
   module _ (t : ℕ) (h : t < n) where
-    pub unfinished-is : unfinished (take n actions) (take n positions) t ≡ ltb (at positions t) (at actions t)
-    unfinished-is = rw (getD-take n positions t 0 h, getD-take n actions t 0 h)
+    pub unfinished-is : unfinished (take n lengths) (take n positions) t ≡ ltb (at positions t) (at lengths t)
+    unfinished-is = rw (getD-take n positions t 0 h, getD-take n lengths t 0 h)
 
     next-rank : rank ls (next x t) ≡ r + at weights t
     next-rank =
         let k : t < length ls = omega (arith, tasks-counted) in
-        rank-next ls x t (s .grid .count) k ∙ rw (s .is-rank, s .weighs .each t k)
+        rank-next ls x t (s .grid .count) k ∙ rw (s .is-rank, s .weighs t h)
 
     -- the byte at the next rank decides
-    pub moves-is : moves (take n actions) map (take n positions) t ≡ (ltb (at positions t) (at actions t) && eqb (at map (r + at weights t)) 0)
+    pub moves-is : moves (take n lengths) map (take n positions) t ≡ (ltb (at positions t) (at lengths t) && eqb (at map (r + at weights t)) 0)
     moves-is =
         ap (λ (b : Bool). b && eqb (at map (rank ls (next x t))) 0) unfinished-is
-        ∙ ap (λ (k : ℕ). ltb (at positions t) (at actions t) && eqb (at map k) 0) next-rank
+        ∙ ap (λ (k : ℕ). ltb (at positions t) (at lengths t) && eqb (at map k) 0) next-rank
 
     pub next-is : take n (set positions t (at positions t + 1)) ≡ next (take n positions) t
     next-is = rw (take-set-lt, getD-take n positions t 0 h) (ap (set x t) (add-one (at positions t)))
 
-    module _ (l : at positions t < at actions t) where
+    module _ (l : at positions t < at lengths t) where
       has-step : unfinished ls x t ≡ true
-      has-step = unfinished-is ∙ lt-ltb (at positions t) (at actions t) l
+      has-step = unfinished-is ∙ lt-ltb (at positions t) (at lengths t) l
 
       -- the next rank has a byte
       pub next-room : r + at weights t < length map
       next-room = omega (arith, rank-lt ls (next x t) (next-grid ls x (s .grid) t has-step), next-rank, s .room)
 
       -- the code stands at the next state
-      pub next-stands : Stands map n actions weights (set positions t (at positions t + 1)) (r + at weights t)
-      next-stands = record {
+      pub next-on-grid : OnGrid map n lengths weights (set positions t (at positions t + 1)) (r + at weights t)
+      next-on-grid = record {
         tasks = s .tasks;
-        actions-all = s .actions-all;
+        lengths-all = s .lengths-all;
         positions-all = length-set positions t (at positions t + 1) ∙ s .positions-all;
         weighs = s .weighs;
         grid = rw next-is (next-grid ls x (s .grid) t has-step);

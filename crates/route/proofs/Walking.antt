@@ -11,10 +11,10 @@ use borrow.Author.Tests.{ltb-true, lt-ltb, le-ltb}
 use Rattle.model.specs.Set.{at}
 use Rattle.model.specs.State.{State, next, unfinished, sum, rank, InGrid}
 use Rattle.model.specs.Route.{firstStep, walk, stepsFrom, walked}
-use Rattle.model.proofs.Tests.{and-true}
+use Rattle.model.proofs.Bools.{and-true}
 use Rattle.model.proofs.Sums.{sum-next, sum-lt}
 use Rattle.model.proofs.RouteStep.{step-lands}
-use Rattle.route.specs.Walks.{Walks}
+use Rattle.route.specs.Walks.{WalkDone}
 
 module _ (ls m : List ℕ) (x : State) where
   abbrev t : ℕ
@@ -96,7 +96,7 @@ module _ (ls m ts : List ℕ) (z : State) (slice₀ : List ℕ) (x : State) (ste
 -- no step is left: the walk is whole
 pub stopped : (ls m : List ℕ) (x₀ : State) (slice₀ : List ℕ) (x : State) (steps r : ℕ) (slice : List ℕ)
     → Along ls m (stepsFrom ls m x₀) (walked x₀ (stepsFrom ls m x₀)) slice₀ x steps slice → InGrid ls x → length ls ≤ firstStep ls m x → r ≡ rank ls x
-    → Walks ls m x₀ slice₀ (record { steps = steps; rank = r }) slice
+    → WalkDone ls m x₀ slice₀ (record { steps = steps; rank = r }) slice
 unfolding walked
 stopped ls m x₀ slice₀ x steps r slice a g none is-rank =
     let ts = stepsFrom ls m x₀ in

@@ -9,11 +9,11 @@ use mathlib.Core.List.{List, [], _∷_}
 use lib.ListN.{length}
 use lib.Dec.{eqb, ltb}
 use borrow.Author.Tests.{ltb-true, eqb-true, lt-ltb, eq-eqb, not-false}
-use Rattle.model.specs.Test.{any}
+use Rattle.model.specs.Below.{any}
 use Rattle.model.specs.Set.{at}
 use Rattle.model.specs.Forbidden.{choose}
 use Rattle.model.specs.TaskTable.{maskOf, masksFrom, table}
-use Rattle.model.proofs.Tests.{by-cases, true-not-false, and-true, or-true, or-right, any-false}
+use Rattle.model.proofs.Bools.{by-cases, true-not-false, and-true, or-true, or-right, any-false}
 use Rattle.model.proofs.TableOrder.{table-length}
 use Rattle.task_sets.specs.Order.{tasksFrom, tasksOf, listBefore, setBefore, occurs}
 

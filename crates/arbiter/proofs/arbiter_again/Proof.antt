@@ -1,5 +1,5 @@
 -- `arbiter::arbiter_again` meets its contract: a walk of its MIR, by hand. The record's borrow is passed on to `again_in_place` at its own lifetime, share and name,
--- and given up for good; what comes back is told by `of_service`. All that the proof knows of the two is that each meets its contract. Assumes nothing.
+-- and given up for good; what comes back is told by `of_again`. All that the proof knows of the two is their contracts.
 use mathlib.Core.Path.{_≡_, refl}
 use Prim.Native.Nat.{ℕ}
 use mathlib.Core.List.{[], _∷_, List}
@@ -13,11 +13,10 @@ use prog.Memory.{Memory}
 use prog.Routine.{Routine}
 use prog.Wp.{Heap, Calls, Loops, WpFn, Tables}
 use ghost.Atoms.{Atoms, sem}
-use contract.Monad.{Fun, fact}
+use contract.Monad.{Fun}
 use contract.Running.{givenOf, tables, tablesOf}
 use contract.Lifetimes.{AllOutlive}
-use types.Kit.{Given, Item, ‵, raw, _⊛_, ⋆, some, later, _$_, _∵_, !, qed, by, move, keep, drop, use1, use2, use3, split, join, pick, fsplit, fjoin, suffices}
-use types.Kit.{frame, await, done}
+use types.Kit.{Given, Item, ‵, raw, _⊛_, ⋆, some, later, _$_, _∵_, !, qed, by, move, keep, use1, use2, use3, split, join, fsplit, fjoin, suffices, frame, done}
 use types.Run.{look, init, addr, forget, stop, hop, from, load, and-then, no-more, assigns, land, returns, enter, alloc1, alloc0, params1, pass1, pass0, free1}
 use types.Run.{free0}
 use sound.WpLaws.{FmC, fmOf, WpFn-mono}
@@ -27,37 +26,38 @@ use denote.Builtin.{u32}
 use denote.Ref.{RefT, MutRef, now, ptr-vals, mut-tells}
 use denote.Slice.{sliceVal, ShrSlice, slice-vals, shr-slice-tells, shr-slice-lawful, shr-slice-copy}
 use denote.Signature.{plain}
-use denote.Steps.{peeks, heard, nothing}
+use denote.Steps.{peeks, nothing}
 use denote.Struct.Laws as LL
 use denote.Enum.Laws as EL
 use denote.Triple.Entry.{onEntry}
 use denote.Triple.Spec.{Meets, tripleOf}
 use denote.Triple.Statement.{Contract, Triple}
 use denote.Triple.Call.{calls-at}
-use denote.Triple.Clauses.{ensured, lasts}
+use denote.Triple.Clauses.{ensured}
 use denote.Triple.Table.{entered, cited}
 use denote.Triple.Walked.{says, Stays, gave-ref, stay-none-slice, walkOf, AllGo, goes-gave-ref, goes-none-slice, Walks, ends-at, walked, walk-meets}
 use denote.Exit.{yes}
 use Rattle.model.specs.Broker as model
-use Rattle.broker.specs.Says.{answerOf, recordOf}
-use Rattle.broker.specs.declared.Record.{Record}
-use Rattle.broker.specs.declared.Answer as broker
-use Rattle.broker.proofs.Record as T
-use Rattle.broker.proofs.Answer as E
-use Rattle.broker.proofs.Answer.Laws as E′
+use Rattle.model.specs.Told.{tellAgain}
+use Rattle.records.specs.Says.{recordOf}
+use Rattle.records.specs.declared.Record.{Record}
+use Rattle.records.proofs.Record as T
+use Rattle.broker.specs.Says.{againOf}
+use Rattle.broker.specs.declared.AgainAnswer.{AgainAnswer}
+use Rattle.broker.proofs.AgainAnswer as E
+use Rattle.broker.proofs.AgainAnswer.Laws as E′
 use Rattle.broker.proofs.again_in_place as call
 use Rattle.broker.proofs.again_in_place.Symbol as call-def
 use Rattle.broker.proofs.again_in_place.Symbol.{name as #broker·again-in-place}
 use Rattle.broker.proofs.again_in_place.Met as call-thm
-use Rattle.arbiter.specs.Told.{told, ToldService}
+use Rattle.arbiter.specs.Told.{structOf, ToldServed}
 use Rattle.arbiter.specs.declared.answers.Answer.{Answer}
-use Rattle.arbiter.proofs.Service.{told-service, Of, to-of, goes-of, of-said}
+use Rattle.arbiter.proofs.Service.{told-served, hears-last, Tells, calls-teller}
 use Rattle.arbiter.proofs.answers.Answer as R
 use Rattle.arbiter.proofs.answers.Answer.Laws as R′
-use Rattle.arbiter.proofs.answers.of_service as of
-use Rattle.arbiter.proofs.answers.of_service.Symbol as of-def
-use Rattle.arbiter.proofs.answers.of_service.Symbol.{name as #arbiter·of-service}
-use Rattle.arbiter.proofs.answers.of_service.Met as of-thm
+use Rattle.arbiter.proofs.answers.of_again.Symbol as of-def
+use Rattle.arbiter.proofs.answers.of_again.Symbol.{name as #arbiter·of-again}
+use Rattle.arbiter.proofs.answers.of_again.Met as of-thm
 use Rattle.arbiter.proofs.arbiter_again.Key.{name as #arbiter·arbiter-again}
 use Rattle.arbiter.proofs.arbiter_again as f
 use Rattle.arbiter.proofs.arbiter_again.Statement as stated
@@ -69,6 +69,13 @@ stayed = (gave-ref (0 ∷ []) tt (plain (λ _. T.the-row)), (stay-none-slice (1 
 -- the contract of `again_in_place`
 abbrev Call : {M : Type 1} (𝓤 : URA M) (H : Heap 𝓤) (A : Atoms 𝓤) (at-mem : Memory → SProp 𝓤) (run : Routine → Fun 𝓤) → Contract 𝓤
 Call 𝓤 H A at-mem run = tripleOf 𝓤 H A call.signature (call.spec 𝓤 H A at-mem run)
+
+-- what a host is told of an answer, and the contract of `of_again`, which tells it
+abbrev IsTold : AgainAnswer → Answer → Type 0
+IsTold t r = r ≡ structOf (tellAgain (againOf t))
+
+abbrev Of : {M : Type 1} (𝓤 : URA M) (H : Heap 𝓤) (A : Atoms 𝓤) → Contract 𝓤
+Of 𝓤 H A = Tells 𝓤 H A E.the-row IsTold
 
 module _ {M : Type 1} (𝓤 : URA M) (H : Heap 𝓤) (A : Atoms 𝓤) (W : Given 𝓤 H A) (at-mem : Memory → SProp 𝓤) (run : Routine → Fun 𝓤) (κ κ₁ : Lft)
     (bounds : AllOutlive 2 (f.signature .outlives) (κ, (κ₁, tt))) (q q₁ : Share) (b o : ℕ) (γ : GName) (h : Record) (ws : RefT (List ℕ)) where
@@ -82,14 +89,15 @@ module _ {M : Type 1} (𝓤 : URA M) (H : Heap 𝓤) (A : Atoms 𝓤) (W : Given
   abbrev vw : Val
   vw = sliceVal (ws .ptr) (length (ws .now))
 
-  abbrev at : List Val × (List Val × Unit {0})
-  at = (vptr b o ∷ [], (vw ∷ [], tt))
+  -- the machine values of the arguments
+  abbrev vals : List Val × (List Val × Unit {0})
+  vals = (vptr b o ∷ [], (vw ∷ [], tt))
 
-  abbrev found : model.Served
+  abbrev found : model.Served model.Again
   found = model.again (now ws) (recordOf h)
 
   abbrev Post : Val → SProp 𝓤
-  Post = walkOf 𝓤 H A f.ended stayed (f.clauses 𝓤 H A at-mem run) .post (((κ, (κ₁, tt)), (q, (q₁, tt)), bounds, x, at), tt)
+  Post = walkOf 𝓤 H A f.ended stayed (f.clauses 𝓤 H A at-mem run) .post (((κ, (κ₁, tt)), (q, (q₁, tt)), bounds, x, vals), tt)
 
   -- the tokens, what the record's borrow owns, and what the slice owns
   abbrev Tokens : Item 𝓤
@@ -106,7 +114,7 @@ module _ {M : Type 1} (𝓤 : URA M) (H : Heap 𝓤) (A : Atoms 𝓤) (W : Given
 
   -- what the triple of `again_in_place` binds outside: this call's own
   abbrev to : Call 𝓤 H A at-mem run .Ghost
-  to = (((κ, (κ₁, tt)), (q, (q₁, tt)), tt, x, at), tt)
+  to = (((κ, (κ₁, tt)), (q, (q₁, tt)), tt, x, vals), tt)
 
   asked : ent 𝓤 (⋆ 𝓤 H A (Tokens ∷ ‵ (fsep Mut Rest) ∷ [])) (Call 𝓤 H A at-mem run .pre to)
   asked = qed W (Tokens ∷ ‵ (fsep Mut Rest) ∷ []) ∵ join ! $ frame ! $ done !
@@ -122,21 +130,28 @@ module _ {M : Type 1} (𝓤 : URA M) (H : Heap 𝓤) (A : Atoms 𝓤) (W : Given
       nothing ! $ move ! (2 ∷ 0 ∷ []) $ fjoin ! $ move ! (3 ∷ 0 ∷ []) $ fjoin ! $ move ! (2 ∷ 0 ∷ []) $
       use2 W (raw (Call 𝓤 H A at-mem run .pre to)) asked $ frame ! $ done !
 
-  exits : (r : Answer) (v : Val) (after : Record) → ToldService r (recordOf after) found
+  -- what `again_in_place` ensures of its answer: at some last record, the clause
+  abbrev Heard : AgainAnswer → SProp 𝓤
+  Heard t = ensured 𝓤 H A call.ended (call.clauses 𝓤 H A at-mem run) (κ, (κ₁, tt)) x tt t
+
+  abbrev Serves : AgainAnswer → Record → Type 0
+  Serves t after = record { answer = againOf t; after = recordOf after } ≡ found
+
+  exits : (r : Answer) (v : Val) (after : Record) → ToldServed tellAgain r (recordOf after) found
       → ent 𝓤 (⋆ 𝓤 H A (Tokens ∷ ‵ (fres γ (T.the-row .coded .code after)) ∷ ‵ Rest ∷ ‵ (R.the-row .own r (v ∷ [])) ∷ [])) (Post v)
   exits r v after e =
       qed W (Tokens ∷ ‵ (fres γ (T.the-row .coded .code after)) ∷ ‵ Rest ∷ ‵ (R.the-row .own r (v ∷ [])) ∷ []) ∵
-      suffices ! _ (ends-at 𝓤 H A f.ended stayed (f.clauses 𝓤 H A at-mem run) W (((κ, (κ₁, tt)), (q, (q₁, tt)), bounds, x, at), tt)
+      suffices ! _ (ends-at 𝓤 H A f.ended stayed (f.clauses 𝓤 H A at-mem run) W (((κ, (κ₁, tt)), (q, (q₁, tt)), bounds, x, vals), tt)
       v r (after, (tt, tt)) (tt, (tt, tt)))
       $ says ! e $
       frame ! $ fjoin ! $ frame ! $ done !
 
   module _ (C : Calls 𝓤 H) (Λ : Loops 𝓤 H) (fm : FmC 𝓤 H (W .laws) C) (known : Triple 𝓤 (C #broker·again-in-place) (Call 𝓤 H A at-mem run))
-      (known-of : Triple 𝓤 (C #arbiter·of-service) (Of 𝓤 H A at-mem run)) where
+      (known-of : Triple 𝓤 (C #arbiter·of-again) (Of 𝓤 H A)) where
     walk : Is (ShrSlice (named 1) κ₁ u32) ws (vw ∷ [])
-        → ent 𝓤 (onEntry 𝓤 H A f.signature (κ, (κ₁, tt)) (q, (q₁, tt)) x at) (WpFn 𝓤 H C Λ code.function (vptr b o ∷ vw ∷ []) Post)
+        → ent 𝓤 (onEntry 𝓤 H A f.signature (κ, (κ₁, tt)) (q, (q₁, tt)) x vals) (WpFn 𝓤 H C Λ code.function (vptr b o ∷ vw ∷ []) Post)
     walk pw =
-        qed W (Tokens ∷ ‵ (owns (MutRef (named 0) κ T.the-row ∷ ShrSlice (named 1) κ₁ u32 ∷ []) x at) ∷ []) ∵
+        qed W (Tokens ∷ ‵ (owns (MutRef (named 0) κ T.the-row ∷ ShrSlice (named 1) κ₁ u32 ∷ []) x vals) ∷ []) ∵
         enter ! C Λ code.function (vptr b o ∷ vw ∷ []) _ $
         alloc1 ! (λ l₀. alloc1 ! (λ l₁. alloc1 ! (λ l₂. alloc1 ! (λ l₃. alloc1 ! (λ l₄. alloc0 ! $ params1 ! $
         pass1 ! (init ! 6 refl (tt, tt)) $ pass1 ! (init ! 4 refl (shr-slice-lawful 𝓤 H A W (named 1) κ₁ u32 .typed ws (vw ∷ []) pw .0)) $ pass0 ! $
@@ -145,33 +160,23 @@ module _ {M : Type 1} (𝓤 : URA M) (H : Heap 𝓤) (A : Atoms 𝓤) (W : Given
         move ! (11 ∷ []) $ fsplit ! $ move ! (12 ∷ 0 ∷ 1 ∷ []) $ use3 W (raw (Call 𝓤 H A at-mem run .pre to) ⊛ ‵ Rest) apart $ split ! $
         calls-at ! fm (Call 𝓤 H A at-mem run) known to (and-then ! (load ! (from ! (stop !)) (look ! 2 refl))
         (and-then ! (load ! (from ! (stop !)) (look ! 6 refl)) (no-more !))) (λ w.
-        use1 W (later (some (λ (t : broker.Answer). (Tokens ⊛ ‵ (E.the-row .own t (w ∷ []))) ⊛ raw
-        (ensured 𝓤 H A call.ended (call.clauses 𝓤 H A at-mem run) (κ, (κ₁, tt)) x tt t)))) (id⊢ 𝓤 _) $ await ! tt $ pick ! (λ t.
-        -- what `again_in_place` ensures, at some last record
-        split ! $ move ! (1 ∷ []) $ use1 W (some (λ (zs : Record × (Unit {0} × Unit {0})).
-        ‵ (lasts call.ended (κ, (κ₁, tt)) x zs) ⊛ raw (fact 𝓤 (record { answer = answerOf t; after = recordOf (zs .0) } ≡ found)))) (id⊢ 𝓤 _) $
-        pick ! (λ zs. split ! $ move ! (1 ∷ []) $ heard ! (record { answer = answerOf t; after = recordOf (zs .0) } ≡ found) (λ e.
-        fsplit ! $ move ! (1 ∷ []) $ drop ! $ move ! (1 ∷ []) $ split ! $ move ! (1 ∷ []) $
+        use1 W (later (some (λ (t : AgainAnswer). (Tokens ⊛ ‵ (E.the-row .own t (w ∷ []))) ⊛ raw (Heard t)))) (id⊢ 𝓤 _) $
+        hears-last ! tt E.the-row w Tokens γ Heard (Unit {0} × Unit {0}) (fsep ftrue ftrue) Serves (λ t. id⊢ 𝓤 _) (λ t after e.
         -- [what the answer owns; tokens; the last record; the rest; _4; …; _3; …; _2; …; _1; …; room for _0; …]
         peeks ! E.the-row (Is E.the-row) (shows 𝓤 H A E.the-row) t (w ∷ []) (λ ist.
         land ! (from ! (stop !)) (init ! 6 refl (EL.lawful E.the-type E′.the-laws 𝓤 H A W tt .typed t _ ist .0)) $
-        use1 W (raw (Of 𝓤 H A at-mem run .pre (to-of 𝓤 H A at-mem run t w))) (goes-of 𝓤 H A at-mem run W t w) $
-        calls-at ! fm (Of 𝓤 H A at-mem run) known-of (to-of 𝓤 H A at-mem run t w) (and-then ! (load ! (from ! (stop !)) (look ! 6 refl)) (no-more !)) (λ v.
-        use1 W (later (some (λ (r : Answer). (‵ ftrue ⊛ ‵ (R.the-row .own r (v ∷ []))) ⊛ raw
-        (ensured 𝓤 H A of.ended (of.clauses 𝓤 H A at-mem run) tt (t, tt) tt r)))) (id⊢ 𝓤 _) $ await ! tt $ pick ! (λ r.
-        split ! $ move ! (1 ∷ []) $ use1 W (raw (fact 𝓤 (r ≡ told (answerOf t)))) (of-said 𝓤 H A at-mem run t r) $
-        heard ! (r ≡ told (answerOf t)) (λ e′. split ! $ drop ! $
+        calls-teller 𝓤 H A E.the-row IsTold ! fm known-of t w (and-then ! (load ! (from ! (stop !)) (look ! 6 refl)) (no-more !)) (λ v r e′.
         -- [what the result owns; tokens; the last record; the rest; _4; …; _3; …; _2; …; _1; …; room for _0; …]
         peeks ! R.the-row (Is R.the-row) (shows 𝓤 H A R.the-row) r (v ∷ []) (λ is.
         land ! (from ! (stop !)) (init ! 12 refl (LL.lawful R.the-type R′.the-laws 𝓤 H A W .typed r _ is .0)) $
         returns ! (look ! 12 refl) $ forget ! 4 refl $ forget ! 6 refl $ forget ! 8 refl $ forget ! 10 refl $ forget ! 12 refl $
         move ! (12 ∷ 13 ∷ []) $ free1 ! $ move ! (10 ∷ 11 ∷ []) $ free1 ! $ move ! (8 ∷ 9 ∷ []) $ free1 ! $ move ! (6 ∷ 7 ∷ []) $ free1 ! $
         move ! (4 ∷ 5 ∷ []) $ free1 ! $ free0 ! $
-        keep ! (1 ∷ 2 ∷ 3 ∷ 0 ∷ []) $ by ! (exits r v (zs .0) (told-service t (zs .0) r found e e′))))))))))))))))
+        keep ! (1 ∷ 2 ∷ 3 ∷ 0 ∷ []) $ by ! (exits r v after (told-served tellAgain (againOf t) (recordOf after) r found e e′))))))))))))
 
 module _ {M : Type 1} (𝓤 : URA M) (H : Heap 𝓤) (A : Atoms 𝓤) (W : Given 𝓤 H A) (at-mem : Memory → SProp 𝓤) (run : Routine → Fun 𝓤) where
   walks : (C : Calls 𝓤 H) (Λ : Loops 𝓤 H) → FmC 𝓤 H (W .laws) C → Triple 𝓤 (C #broker·again-in-place) (Call 𝓤 H A at-mem run)
-      → Triple 𝓤 (C #arbiter·of-service) (Of 𝓤 H A at-mem run)
+      → Triple 𝓤 (C #arbiter·of-again) (Of 𝓤 H A)
       → Walks 𝓤 H A f.ended stayed (WpFn 𝓤 H C Λ code.function) (f.clauses 𝓤 H A at-mem run)
   walks C Λ fm known known-of = walked 𝓤 H A f.ended stayed (f.clauses 𝓤 H A at-mem run) (WpFn 𝓤 H C Λ code.function) (λ κs. (ptr-vals, (slice-vals, tt)))
       (λ κs. (mut-tells (named 0) (κs .0) T.the-row, (shr-slice-tells (named 1) (κs .1 .0) u32, tt)))
@@ -182,7 +187,7 @@ module _ {M : Type 1} (𝓤 : URA M) (H : Heap 𝓤) (A : Atoms 𝓤) (W : Given
   goes = (goes-gave-ref 𝓤 H A W 2 0 tt (plain (λ _. T.the-row)), (goes-none-slice 𝓤 H A W 2 (1 ∷ []) tt (plain (λ _. u32)) yes, tt))
 
 meets : {M : Type 1} (𝓤 : URA M) (H : Heap 𝓤) (A : Atoms 𝓤) → Given 𝓤 H A → (at-mem : Memory → SProp 𝓤) (run : Routine → Fun 𝓤) (𝓣 : Tables 𝓤 H)
-    → Triple 𝓤 (𝓣 .C #broker·again-in-place) (Call 𝓤 H A at-mem run) → Triple 𝓤 (𝓣 .C #arbiter·of-service) (Of 𝓤 H A at-mem run)
+    → Triple 𝓤 (𝓣 .C #broker·again-in-place) (Call 𝓤 H A at-mem run) → Triple 𝓤 (𝓣 .C #arbiter·of-again) (Of 𝓤 H A)
     → Meets 𝓤 H A f.signature (WpFn 𝓤 H (𝓣 .C) (𝓣 .Λ) code.function) (f.spec 𝓤 H A at-mem run)
 meets 𝓤 H A W at-mem run 𝓣 known known-of = walk-meets 𝓤 H A f.ended stayed W (goes 𝓤 H A W at-mem run) (f.clauses 𝓤 H A at-mem run)
     (WpFn 𝓤 H (𝓣 .C) (𝓣 .Λ) code.function) (WpFn-mono 𝓤 H (W .laws) 𝓣 code.function)
@@ -196,5 +201,5 @@ arbiter-again-spec 𝓤 H 𝓜 𝓖 𝓡 =
     (meets 𝓤 H (𝓖 .A) (givenOf 𝓤 H 𝓜 𝓖) (𝓜 .mem) (𝓡 .run) (tablesOf 𝓤 H 𝓜 (tables 𝓤 H 𝓜 𝓡 code.env))
     (cited 𝓤 H (Call 𝓤 H (𝓖 .A) (𝓜 .mem) (𝓡 .run)) 𝓜 𝓡 code.env #broker·again-in-place call-def.routine code.calls-broker·again-in-place
     (call-thm.met 𝓤 H 𝓜 𝓖 𝓡))
-    (cited 𝓤 H (Of 𝓤 H (𝓖 .A) (𝓜 .mem) (𝓡 .run)) 𝓜 𝓡 code.env #arbiter·of-service of-def.routine code.calls-arbiter·answers·of-service
+    (cited 𝓤 H (Of 𝓤 H (𝓖 .A)) 𝓜 𝓡 code.env #arbiter·of-again of-def.routine code.calls-arbiter·answers·of-again
     (of-thm.met 𝓤 H 𝓜 𝓖 𝓡)))

@@ -1,49 +1,33 @@
--- `broker::again` meets its contract, by what the reader ensures of the words.
--- Assumes nothing.
+-- `broker::again` meets its contract: the record starts anew exactly if the answer is Restarted.
 use borrow.Author.Needs.{needs}
-use Rattle.model.specs.Broker.{againReading}
-use Rattle.reader.proofs.Facts.{accepted, refused}
+use Rattle.model.specs.Answer.{ifGiven}
+use Rattle.broker.specs.Says.{againOf}
 use Rattle.broker.proofs.again.Statement.{statement}
 use Rattle.broker.proofs.again.Tie as tie
 
-read-requires : tie.Need-read-requires
-read-requires c κs = search needs
-
-enum-known-verdict : tie.Need-enum-known-verdict
-enum-known-verdict c = search needs
-
-turn-back-requires : tie.Need-turn-back-requires
-turn-back-requires c κs = search needs
+answer-requires : tie.Need-answer-requires
+answer-requires c κs = search needs
 
 enum-told : tie.Need-enum-told
 enum-told c = search needs
 
-again-on-requires : tie.Need-again-on-requires
-again-on-requires c κs =
-    let r = c .before .before .before .read in
-    (_, _, accepted _ (r .result) (r .ensures) _ (c .enum-told .given .1) .declared)
+restarted-requires : tie.Need-restarted-requires
+restarted-requires c κs = search needs
+
+enum-told-2 : tie.Need-enum-told-2
+enum-told-2 c = search needs
 
 returns : tie.Need-returns
-unfolding againReading
+unfolding ifGiven againOf
 returns c =
-    let r = c .before .before .before .before .before .read in
-    rw (refused _ (r .result) (r .ensures) _ _ (c .before .before .verdict .given .1)) (c .turn-back .ensures)
+    let b = c .before .before .before in
+    rw (← b .answer .ensures, c .before .enum-told .given .1, c .restarted .ensures)
 
 returns-2 : tie.Need-returns-2
-unfolding againReading
+unfolding ifGiven againOf
 returns-2 c =
-    let r = c .before .before .before .before .read in
-    let a = accepted _ (r .result) (r .ensures) _ (c .before .enum-told .given .1) in
-    rw (a .set-read) (c .again-on .ensures _ _ (a .declared))
+    rw (← c .before .before .answer .ensures, c .enum-told2 .given .1)
 
 pub again-spec : {M : Type 1} → statement M
 again-spec =
-    tie.close
-    (tie.spec
-    read-requires
-    enum-known-verdict
-    turn-back-requires
-    enum-told
-    again-on-requires
-    returns
-    returns-2)
+    tie.close (tie.spec answer-requires enum-told restarted-requires enum-told-2 returns returns-2)

@@ -1,48 +1,48 @@
--- `broker::bid` meets its contract, by what the reader ensures of the words.
--- Assumes nothing.
+-- `broker::bid` meets its contract: the record moves exactly if the answer is Granted.
 use borrow.Author.Needs.{needs}
-use Rattle.model.specs.Broker.{bidReading}
-use Rattle.reader.proofs.Facts.{accepted, refused}
+use mathlib.Core.Path.{_≡_, refl, sym, ap, _∙_}
+use mathlib.Core.Bool.{false}
+use mathlib.Core.List.{[], _∷_}
+use types.Run.{OneOf, miss}
+use denote.Enum.Declared.{tagOf}
+use Rattle.model.specs.Broker.{isGranted}
+use Rattle.broker.specs.declared.BidAnswer.{BidAnswer}
+use Rattle.broker.specs.declared.BidAnswer.the-variants.{Granted, Finished, Busy, Held, Refused}
+use Rattle.broker.specs.Says.{bidOf}
+use Rattle.broker.proofs.BidAnswer as E
+use Rattle.broker.proofs.BidCases.{granted-left}
 use Rattle.broker.proofs.bid.Statement.{statement}
 use Rattle.broker.proofs.bid.Tie as tie
 
-read-requires : tie.Need-read-requires
-read-requires c κs = search needs
+-- every other answer leaves the record
+not-granted : (a : BidAnswer) → OneOf (1 ∷ 2 ∷ 3 ∷ 4 ∷ []) (tagOf E.the-type a) → isGranted (bidOf a) ≡ false
+unfolding isGranted bidOf
+not-granted Granted o = absurd (miss (1 ∷ 2 ∷ 3 ∷ 4 ∷ []) 0 tt o)
+not-granted Finished o = refl
+not-granted (Busy d) o = refl
+not-granted (Held r) o = refl
+not-granted (Refused n p) o = refl
 
-enum-known-verdict : tie.Need-enum-known-verdict
-enum-known-verdict c = search needs
-
-turn-back-requires : tie.Need-turn-back-requires
-turn-back-requires c κs = search needs
+answer-requires : tie.Need-answer-requires
+answer-requires c κs = search needs
 
 enum-told : tie.Need-enum-told
 enum-told c = search needs
 
-bid-on-requires : tie.Need-bid-on-requires
-bid-on-requires c κs =
-    let r = c .before .before .before .read in
-    accepted _ (r .result) (r .ensures) _ (c .enum-told .given .1) .declared
+granted-requires : tie.Need-granted-requires
+unfolding bidOf
+granted-requires c κs =
+    let b = c .before .before in
+    granted-left _ _ _ _ (sym (b .answer .ensures) ∙ ap bidOf (c .enum-told .given .1))
 
 returns : tie.Need-returns
-unfolding bidReading
+unfolding isGranted bidOf
 returns c =
-    let r = c .before .before .before .before .before .read in
-    rw (refused _ (r .result) (r .ensures) _ _ (c .before .before .verdict .given .1)) (c .turn-back .ensures)
+    let b = c .before .before .before in
+    rw (← b .answer .ensures, c .before .enum-told .given .1, c .granted .ensures)
 
 returns-2 : tie.Need-returns-2
-unfolding bidReading
-returns-2 c =
-    let r = c .before .before .before .before .read in
-    rw (accepted _ (r .result) (r .ensures) _ (c .before .enum-told .given .1) .set-read) (c .bid-on .ensures)
+returns-2 c = rw (← c .before .answer .ensures, not-granted _ (c .match .keys2))
 
 pub bid-spec : {M : Type 1} → statement M
-bid-spec =
-    tie.close
-    (tie.spec
-    read-requires
-    enum-known-verdict
-    turn-back-requires
-    enum-told
-    bid-on-requires
-    returns
-    returns-2)
+bid-spec = tie.close (tie.spec answer-requires enum-told granted-requires returns returns-2)

@@ -1,38 +1,51 @@
+-- `forbidden_boxes::device_boxes` meets its contract: a device with no more tasks, or no more claimers, than its capacity has no boxes; else its rows give them.
 use native.Mathlib.Omega.{arith}
-use Rattle.plan_words.proofs.After.{wrote-none}
-use Rattle.forbidden_boxes.proofs.Declared.{acts}
-use Rattle.forbidden_boxes.proofs.Device.{device-written, device-passed, device-unclaimed}
 use borrow.Author.Needs.{needs}
+use Rattle.shape.proofs.Declared.{devices-are, few-devices, few-tasks}
+use Rattle.plan_words.proofs.After.{wrote-none}
+use Rattle.forbidden_boxes.proofs.Device.{device-written, device-passed, device-unclaimed}
 use Rattle.forbidden_boxes.proofs.device_boxes.Statement.{statement}
 use Rattle.forbidden_boxes.proofs.device_boxes.Tie as tie
 
-array-read-capacity : tie.Need-array-read-capacity
-array-read-capacity c = search needs
+-- the function's start, from where the capacity is read, the rows are made, their claimers counted and the header is known
+abbrev begun : tie.After-capacity → tie.Start
+begun c = c .before .before .before .before .before
+
+abbrev begun-rows : tie.After-task-rows → tie.Start
+begun-rows c = begun (c .before .before .before)
+
+abbrev rows-of : tie.After-claimers → tie.After-task-rows
+rows-of c = c .before .before .before .before
+
+abbrev claimers-of : tie.After-forbidden-box → tie.After-claimers
+claimers-of c = c .before .before
+
+element-copy-out-capacity : tie.Need-element-copy-out-capacity
+element-copy-out-capacity c =
+    let s = c .before .before .before .before in
+    omega (arith, devices-are (s .pre .0), few-devices (s .pre .0), s .pre .1 .0)
 
 cast-if1 : tie.Need-cast-if1
 cast-if1 c = search needs
 
 returns : tie.Need-returns
 returns c =
-    let s = c .before .before .before .before .before in
+    let s = begun (c .before) in
     rw (device-passed (s .pre .0) (s .args .device) (s .pre .1 .0) (c .if1 .taken)) (wrote-none (omega arith))
 
 cast-task-rows : tie.Need-cast-task-rows
 cast-task-rows c = search needs
 
 task-rows-requires : tie.Need-task-rows-requires
-task-rows-requires c κs =
-    let s = c .before .before .before .before .before .before in
-    let says = s .pre .0 in
-    (omega (arith, says .tasks, says .well-formed .tasks), (omega arith, acts says (s .args .device)))
+task-rows-requires c κs = let s = begun (c .before .before) in (s .pre .0, s .pre .1 .1 .0)
 
 slice-aggregate-claimers : tie.Need-slice-aggregate-claimers
 slice-aggregate-claimers c = search needs
 
 claimers-requires : tie.Need-claimers-requires
 claimers-requires c κs =
-    let says = c .before .before .before .before .before .before .before .before .before .before .pre .0 in
-    (omega (arith, says .tasks, says .well-formed .tasks), c .before .before .before .task-rows .ensures .sized .eight-counts)
+    let r = c .before .before .before in
+    (few-tasks (begun-rows r .pre .0), r .task-rows .ensures .sized .eight-holds)
 
 cast-if2 : tie.Need-cast-if2
 cast-if2 c = search needs
@@ -42,25 +55,27 @@ same-length c = search needs
 
 returns-2 : tie.Need-returns-2
 returns-2 c =
-    let s = c .before .before .before .before .before .before .before .before .before .before .before .before in
+    let r = rows-of (c .before) in
+    let s = begun-rows r in
     let few = rw (c .before .claimers .ensures) at (c .if2 .taken) in
-    let rows = c .before .before .before .before .before .task-rows in
-    rw (device-unclaimed (s .pre .0) (s .args .device) (s .pre .1 .0) (rows .ensures) few) (wrote-none (omega arith))
+    rw (device-unclaimed (s .pre .0) (s .args .device) (s .pre .1 .0) (r .task-rows .ensures) few) (wrote-none (omega arith))
 
-cast-header : tie.Need-cast-header
-cast-header c = search needs
+cast-forbidden-box : tie.Need-cast-forbidden-box
+cast-forbidden-box c = search needs
 
-add-header : tie.Need-add-header
-add-header c = search needs
+forbidden-box-requires : tie.Need-forbidden-box-requires
+forbidden-box-requires c κs =
+    let s = begun-rows (rows-of (c .before)) in
+    omega (arith, devices-are (s .pre .0), few-devices (s .pre .0), s .pre .1 .0)
 
 slice-aggregate-table-boxes : tie.Need-slice-aggregate-table-boxes
 slice-aggregate-table-boxes c = search needs
 
 table-boxes-requires : tie.Need-table-boxes-requires
 table-boxes-requires c κs =
-    let r = c .before .before .before .before .before .before .before .before .before .before .before .before .before .before .before .pre in
-    let rows = c .before .before .before .before .before .before .before .before .task-rows in
-    (omega arith, (omega (arith, r .0 .tasks, r .0 .well-formed .tasks), (rows .ensures .sized, r .1 .1 .1 .1)))
+    let r = rows-of (claimers-of (c .before .before .before)) in
+    let p = begun-rows r .pre in
+    (omega arith, (few-tasks (p .0), (r .task-rows .ensures .sized, p .1 .1 .1 .1)))
 
 same-length-2 : tie.Need-same-length-2
 same-length-2 c = search needs
@@ -70,15 +85,17 @@ same-length-3 c = search needs
 
 returns-3 : tie.Need-returns-3
 returns-3 c =
-    let s = c .before .before .before .before .before .before .before .before .before .before .before .before .before .before .before .before .before .before in
-    let rows = c .before .before .before .before .before .before .before .before .before .before .before .task-rows in
-    rw (← device-written (s .pre .0) (s .args .device) (s .pre .1 .0) (rows .ensures)) (c .before .before .table-boxes .ensures)
+    let b = c .before .before in
+    let h = b .before .before .before .before in
+    let r = rows-of (claimers-of h) in
+    let s = begun-rows r in
+    rw (← device-written (s .pre .0) (s .args .device) (s .pre .1 .0) (r .task-rows .ensures), ← h .forbidden-box .ensures) (b .table-boxes .ensures)
 
 pub device-boxes-spec : {M : Type 1} → statement M
 device-boxes-spec =
     tie.close
     (tie.spec
-    array-read-capacity
+    element-copy-out-capacity
     cast-if1
     returns
     cast-task-rows
@@ -88,8 +105,8 @@ device-boxes-spec =
     cast-if2
     same-length
     returns-2
-    cast-header
-    add-header
+    cast-forbidden-box
+    forbidden-box-requires
     slice-aggregate-table-boxes
     table-boxes-requires
     same-length-2

@@ -1,4 +1,4 @@
--- By cases, as the definition goes.
+-- `listing::decode` meets its contract: by cases, as the definition goes.
 -- Assumes nothing.
 use mathlib.Core.Path.{refl}
 use borrow.Author.Needs.{needs}
@@ -23,7 +23,9 @@ same-length c = search needs
 
 returns-3 : tie.Need-returns-3
 unfolding decoded wordsAfter
-returns-3 c = (simp (le-ltb _ _ (c .before .before .before .before .before .if1 .left), eq-eqb _ _ (c .before .before .before .before .if2 .left)), c .before .before .fill-words .ensures)
+returns-3 c =
+    let whole = c .before .before .before .before in
+    (simp (le-ltb _ _ (whole .before .if1 .left), eq-eqb _ _ (whole .if2 .left)), c .before .before .fill-words .ensures)
 
 pub decode-spec : {M : Type 1} → statement M
 decode-spec = tie.close (tie.spec returns returns-2 fill-words-requires same-length returns-3)

@@ -1,4 +1,5 @@
--- The lines of the first k words from index `from` on stand at the front of the slice, which is as it was behind them.
+-- `listing::fill_lines` meets its contract. The invariant: the lines of the first k words from index `from` on stand at the front of the slice, which is as it
+-- was behind them.
 -- Assumes nothing.
 use mathlib.Core.Path.{_≡_, refl, sym, ap, ap₂, _∙_}
 use mathlib.Core.List.{List, _++_}
@@ -17,8 +18,8 @@ Inv-loop words from out₀ count k₀ out k = (k ≤ count) × (length out ≡ l
 abbrev μ-loop : tie.MeasureT-loop
 μ-loop words from out₀ count k₀ out k = count - k
 
-left-requires : tie.Need-left-requires Inv-loop μ-loop
-left-requires c κs = omega arith
+count-from-requires : tie.Need-count-from-requires Inv-loop μ-loop
+count-from-requires c κs = omega arith
 
 least-requires : tie.Need-least-requires Inv-loop μ-loop
 least-requires c κs = omega arith
@@ -50,8 +51,10 @@ loop-less c = omega arith
 
 loop-again : tie.Need-loop-again Inv-loop μ-loop
 loop-again c =
-    let a = c .before .before .before .before .before .before .before .before .before .before .before .args in
-    let o = c .before .before .before .before .before .before .loop in
+    let tested = c .before .before .before .before .before in
+    let entered = tested .before .before .before in
+    let a = entered .before .before .before .args in
+    let o = tested .before .loop in
     let l = c .before .before .put-line in
     let ws : List ℕ = drop (a .from) (a .words .now) in
     let n : length ws ≡ length (a .words .now) - a .from = length-drop (a .from) (a .words .now) in
@@ -66,7 +69,8 @@ same-length c = c .before .loop .inv .1
 
 returns : tie.Need-returns Inv-loop μ-loop
 returns c =
-    let a = c .before .before .before .before .before .before .args in
+    let entered = c .before .before .before in
+    let a = entered .before .before .before .args in
     let o = c .before .loop in
     let count = c .before .before .least .result in
     let ws : List ℕ = drop (a .from) (a .words .now) in
@@ -83,7 +87,7 @@ fill-lines-spec =
     (tie.spec
     Inv-loop
     μ-loop
-    left-requires
+    count-from-requires
     least-requires
     loop-holds
     add-put-line

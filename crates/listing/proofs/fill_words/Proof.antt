@@ -1,4 +1,4 @@
--- The first k words of the bytes stand at the front of the slice, which is as it was behind them.
+-- `listing::fill_words` meets its contract. The invariant: the first k words of the bytes stand at the front of the slice, which is as it was behind them.
 -- Assumes nothing.
 use mathlib.Core.Path.{_≡_, refl, sym, ap₂, _∙_}
 use mathlib.Core.List.{List, _++_}
@@ -40,7 +40,8 @@ loop-less c = omega arith
 
 loop-again : tie.Need-loop-again Inv-loop μ-loop
 loop-again c =
-    let a = c .before .before .before .before .before .before .args in
+    let entered = c .before .before .before in
+    let a = entered .before .before .before .args in
     let bs : List ℕ = a .bytes .now in
     let o = c .before .before .loop in
     let n : length (wordsIn bs) ≡ length bs / 4 = length-tabulate (length bs / 4) (wordAt bs) in

@@ -1,19 +1,14 @@
+-- `listing::hex_digit` meets its contract. By the test, as the definition goes.
 use borrow.Author.Needs.{needs}
 use borrow.Author.Tests.{lt-ltb, le-ltb}
 use Rattle.listing.proofs.hex_digit.Statement.{statement}
 use Rattle.listing.proofs.hex_digit.Tie as tie
 
-cast-result : tie.Need-cast-result
-cast-result c = search needs
+cast-digit : tie.Need-cast-digit
+cast-digit c = search needs
 
 add-result : tie.Need-add-result
 add-result c = search needs
-
-cast-result-2 : tie.Need-cast-result-2
-cast-result-2 c = search needs
-
-sub-result : tie.Need-sub-result
-sub-result c = search needs
 
 add-result-2 : tie.Need-add-result-2
 add-result-2 c = search needs
@@ -25,6 +20,4 @@ returns-2 : tie.Need-returns-2
 returns-2 c = simp (le-ltb _ _ (c .if1 .left))
 
 pub hex-digit-spec : {M : Type 1} → statement M
-hex-digit-spec =
-    tie.close
-    (tie.spec cast-result add-result cast-result-2 sub-result add-result-2 returns returns-2)
+hex-digit-spec = tie.close (tie.spec cast-digit add-result add-result-2 returns returns-2)

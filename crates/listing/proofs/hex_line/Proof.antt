@@ -1,4 +1,4 @@
--- The digits' contracts, one after the other.
+-- `listing::hex_line` meets its contract: the digits' contracts, one after the other.
 -- Assumes nothing.
 use borrow.Author.Needs.{needs}
 use Rattle.listing.proofs.hex_line.Statement.{statement}

@@ -1,4 +1,4 @@
--- The first j bytes of the line stand in the slice from index `to` on.
+-- `listing::put_line` meets its contract. The invariant: the first j bytes of the line stand in the slice from index `to` on.
 -- Assumes nothing.
 use mathlib.Core.Path.{_≡_, refl, sym, ap, ap₂, _∙_}
 use mathlib.Core.List.{List}

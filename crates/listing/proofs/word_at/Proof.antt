@@ -1,4 +1,4 @@
--- Four bytes and their weights.
+-- `listing::word_at` meets its contract: the indices lie within the whole words, and four bytes with their weights make a word.
 -- Assumes nothing.
 use borrow.Author.Needs.{needs}
 use Rattle.listing.specs.Words.{wordAt}

@@ -1,5 +1,4 @@
--- `main` shares no more of its words than it has: decoded words are at most 4,096.
--- Assumes nothing.
+-- `printer::main` meets its contract: it shares no more of its words than it has, for decoded words are at most 4,096.
 use mathlib.Core.Path.{sym, _∙_}
 use Prim.Native.Nat.{ℕ, _≤_}
 use native.Mathlib.Omega.{arith}

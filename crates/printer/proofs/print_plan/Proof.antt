@@ -1,5 +1,4 @@
--- `print_plan` shares no more of its plan slice than it has: an accepted analysis counts words that fit.
--- Assumes nothing.
+-- `printer::print_plan` meets its contract: it shares no more of its plan slice than it has, for an accepted analysis counts words that fit.
 use mathlib.Core.Path.{sym}
 use Prim.Native.Nat.{ℕ, _≤_}
 use native.Mathlib.Omega.{arith}

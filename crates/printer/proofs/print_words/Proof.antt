@@ -1,5 +1,5 @@
--- A block's lines fit into it, and each block takes at least one word more, up to all of them.
--- Assumes nothing.
+-- `printer::print_words` meets its contract. The invariant: no more words are printed than there are. A block's lines fit into it, and each block takes at least
+-- one word more.
 use mathlib.Core.Path.{sym}
 use Prim.Native.Nat.{ℕ, _*_, _-_, _≤_}
 use native.Mathlib.Omega.{arith}
@@ -35,11 +35,11 @@ mul-block c = omega (arith, c .before .fill-lines .ensures .0, length-replicate 
 array-share-prefix-block : tie.Need-array-share-prefix-block Inv-loop μ-loop
 array-share-prefix-block c = within c
 
-slice-aggregate-write-all : tie.Need-slice-aggregate-write-all Inv-loop μ-loop
-slice-aggregate-write-all c = sym (length-take-le _ _ (within (c .before)))
+slice-aggregate-text : tie.Need-slice-aggregate-text Inv-loop μ-loop
+slice-aggregate-text c = sym (length-take-le _ _ (within (c .before)))
 
-write-all-requires : tie.Need-write-all-requires Inv-loop μ-loop
-write-all-requires c κs = search needs
+text-requires : tie.Need-text-requires Inv-loop μ-loop
+text-requires c κs = search needs
 
 add-from : tie.Need-add-from Inv-loop μ-loop
 add-from c = omega (arith, c .before .before .before .fill-lines .ensures .0, length-replicate {A = ℕ} 9216 0)
@@ -64,8 +64,8 @@ print-words-spec =
     fill-lines-requires
     mul-block
     array-share-prefix-block
-    slice-aggregate-write-all
-    write-all-requires
+    slice-aggregate-text
+    text-requires
     add-from
     loop-less
     loop-again

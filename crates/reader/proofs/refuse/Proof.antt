@@ -1,4 +1,4 @@
--- `reader::refuse` meets its contract. Assumes nothing.
+-- `reader::refuse` meets its contract: a refusal has the shape of the empty set.
 use borrow.Author.Needs.{needs}
 use Rattle.model.specs.Read.{setOf}
 use Rattle.reader.specs.Answer.{verdictOf}

@@ -13,22 +13,22 @@ use lib.ListN.{length, getD, take}
 use Rattle.model.specs.State.{State}
 use Rattle.model.specs.Route.{stepFrom, firstStep}
 use Rattle.model.proofs.Moves.{moves}
-use Rattle.route.specs.Walks.{Stands}
+use Rattle.route.specs.Walks.{OnGrid}
 use Rattle.route.proofs.Standing.{tasks-counted, moves-is, next-room}
 use Rattle.route.proofs.first_step.Statement.{statement}
 use Rattle.route.proofs.first_step.Tie as tie
 
 -- the search among n tasks from t on
 abbrev Searches : List ℕ → ℕ → List ℕ → List ℕ → ℕ → Type 0
-Searches map n actions positions t =
-    stepFrom (take n actions) map (n - t) t (take n positions) ≡ firstStep (take n actions) map (take n positions)
+Searches map n lengths positions t =
+    stepFrom (take n lengths) map (n - t) t (take n positions) ≡ firstStep (take n lengths) map (take n positions)
 
 abbrev Inv-loop : tie.InvT-loop
-Inv-loop map tasks rank actions weights positions t₀ t =
-    Searches map tasks actions positions t × Stands map tasks actions weights positions rank × (t ≤ tasks)
+Inv-loop map tasks rank lengths weights positions t₀ t =
+    Searches map tasks lengths positions t × OnGrid map tasks lengths weights positions rank × (t ≤ tasks)
 
 abbrev μ-loop : tie.MeasureT-loop
-μ-loop map tasks rank actions weights positions t₀ t = tasks - t
+μ-loop map tasks rank lengths weights positions t₀ t = tasks - t
 
 module _ (ls m : List ℕ) (n t : ℕ) (x : State) (h : t < n) where
   abbrev one-more : n - t ≡ suc (n - (t + 1))

@@ -1,5 +1,6 @@
--- `route::refuse` meets its contract.
+-- `route::refuse` meets its contract: the slice is filled with 255.
 use borrow.Author.Needs.{needs}
+use Rattle.model.specs.Answer.{_then_, ifGiven}
 use Rattle.route.specs.Says.{answerOf}
 use Rattle.route.proofs.refuse.Statement.{statement}
 use Rattle.route.proofs.refuse.Tie as tie
@@ -11,7 +12,7 @@ same-length : tie.Need-same-length
 same-length c = search needs
 
 returns : tie.Need-returns
-unfolding answerOf
+unfolding answerOf _then_ ifGiven
 returns c = rw (c .before .before .fill .ensures)
 
 pub refuse-spec : {M : Type 1} → statement M

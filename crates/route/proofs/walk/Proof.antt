@@ -9,22 +9,22 @@ use mir.Syntax.{w8}
 use mir.Val.{Fits}
 use Rattle.model.specs.State.{sum}
 use Rattle.model.specs.Route.{stepsFrom, walked}
-use Rattle.route.specs.Walks.{Stands}
-use Rattle.route.proofs.Standing.{tasks-counted, next-room, next-stands}
+use Rattle.route.specs.Walks.{OnGrid}
+use Rattle.route.proofs.Standing.{tasks-counted, next-room, next-on-grid}
 use Rattle.route.proofs.Walking.{Along, at-start, stopped}
 use Rattle.route.proofs.Stepping.{has-action, rises, falls, goes-along}
 use Rattle.route.proofs.walk.Statement.{statement}
 use Rattle.route.proofs.walk.Tie as tie
 
 abbrev Inv-loop : tie.InvT-loop
-Inv-loop map tasks actions rank slice₀ weights positions₀ here₀ steps₀ slice positions here steps =
-    Stands map tasks actions weights positions here × (steps ≤ here)
-    × Along (take tasks actions) map (stepsFrom (take tasks actions) map (take tasks positions₀))
-    (walked (take tasks positions₀) (stepsFrom (take tasks actions) map (take tasks positions₀))) slice₀ (take tasks positions) steps slice
+Inv-loop map tasks lengths rank slice₀ weights positions₀ here₀ steps₀ slice positions here steps =
+    OnGrid map tasks lengths weights positions here × (steps ≤ here)
+    × Along (take tasks lengths) map (stepsFrom (take tasks lengths) map (take tasks positions₀))
+    (walked (take tasks positions₀) (stepsFrom (take tasks lengths) map (take tasks positions₀))) slice₀ (take tasks positions) steps slice
 
 abbrev μ-loop : tie.MeasureT-loop
-μ-loop map tasks actions rank slice₀ weights positions₀ here₀ steps₀ slice positions here steps =
-    sum (take tasks actions) - sum (take tasks positions)
+μ-loop map tasks lengths rank slice₀ weights positions₀ here₀ steps₀ slice positions here steps =
+    sum (take tasks lengths) - sum (take tasks positions)
 
 -- after the search: the task found is one of the set's
 few : (c : tie.Else1 Inv-loop μ-loop) → c .before .first-step .result < 8
@@ -33,12 +33,12 @@ few c = omega (arith, c .if1 .left, c .before .before .loop .inv .0 .tasks)
 -- it has an action left
 left : (c : tie.Else1 Inv-loop μ-loop) → (
     let t = c .before .first-step .result in
-    getD (c .before .before .loop .positions) t 0 < getD (c .before .before .before .before .before .args .actions) t 0)
+    getD (c .before .before .loop .positions) t 0 < getD (c .before .before .before .before .before .args .lengths) t 0)
 left c = has-action _ _ _ _ _ _ (c .before .before .loop .inv .0) _ (c .before .first-step .ensures) (c .if1 .left)
 
-byte : (c : tie.Else1 Inv-loop μ-loop) → getD (c .before .before .before .before .before .args .actions) (c .before .first-step .result) 0 < 256
+byte : (c : tie.Else1 Inv-loop μ-loop) → getD (c .before .before .before .before .before .args .lengths) (c .before .first-step .result) 0 < 256
 byte c =
-    let b : Fits w8 (getD (c .before .before .before .before .before .args .actions) (c .before .first-step .result) 0) = search needs in
+    let b : Fits w8 (getD (c .before .before .before .before .before .args .lengths) (c .before .first-step .result) 0) = search needs in
     b .fits
 
 -- its step goes up, to a rank with a byte
@@ -117,7 +117,7 @@ loop-again c =
     let b = c .before in
     let k = b .before .before .loop in
     let found = b .before .first-step .ensures in (
-      next-stands _ _ _ _ _ _ (k .inv .0) _ (b .if1 .left) (left b),
+      next-on-grid _ _ _ _ _ _ (k .inv .0) _ (b .if1 .left) (left b),
       omega (arith, up b, k .inv .1),
       goes-along _ _ _ _ _ _ (k .inv .0) _ found (b .if1 .left) _ _ _ _ _ (c .if2 .slice) (k .inv .2) (same c) (stored c),
     )

@@ -1,7 +1,7 @@
--- `arbiter::answers::of_outcome` meets its contract, case by case.
+-- `arbiter::answers::of_outcome` meets its contract: each case of the answer is told by its kind.
 use borrow.Author.Needs.{needs}
-use Rattle.analysis.specs.Says.{answerOf}
 use Rattle.model.specs.Told.{tell}
+use Rattle.analysis.specs.Says.{answerOf}
 use Rattle.arbiter.proofs.answers.of_outcome.Statement.{statement}
 use Rattle.arbiter.proofs.answers.of_outcome.Tie as tie
 
@@ -22,7 +22,7 @@ unfolding tell answerOf
 returns c = rw (c .before .before .outcome .given .1) (c .valued .ensures)
 
 returns-2 : tie.Need-returns-2
-unfolding answerOf
+unfolding tell answerOf
 returns-2 c = rw (c .before .before .outcome2 .given .1) (c .refuse .ensures)
 
 pub of-outcome-spec : {M : Type 1} → statement M

@@ -1,7 +1,7 @@
--- `arbiter::answers::of_route` meets its contract, case by case.
+-- `arbiter::answers::of_route` meets its contract: each case of the answer is told by its kind.
 use borrow.Author.Needs.{needs}
-use Rattle.route.specs.Says.{answerOf}
 use Rattle.model.specs.Told.{tell}
+use Rattle.route.specs.Says.{answerOf}
 use Rattle.arbiter.proofs.answers.of_route.Statement.{statement}
 use Rattle.arbiter.proofs.answers.of_route.Tie as tie
 
@@ -22,7 +22,7 @@ unfolding tell answerOf
 returns c = rw (c .before .before .answer .given .1) (c .valued .ensures)
 
 returns-2 : tie.Need-returns-2
-unfolding answerOf
+unfolding tell answerOf
 returns-2 c = rw (c .before .before .answer2 .given .1) (c .refuse .ensures)
 
 pub of-route-spec : {M : Type 1} → statement M

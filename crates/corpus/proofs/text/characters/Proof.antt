@@ -1,3 +1,4 @@
+-- `corpus::text::characters` meets its contract. The invariant: the line keeps its length.
 use mathlib.Core.Path.{_≡_, refl}
 use Prim.Native.Nat.{_-_}
 use lib.ListN.{length, length-set}

@@ -1,3 +1,4 @@
+-- `corpus::text::hex_words` meets its contract. The loop counts up to the length and needs no invariant.
 use Prim.Native.Nat.{_-_}
 use lib.ListN.{length}
 use borrow.Author.Needs.{needs}

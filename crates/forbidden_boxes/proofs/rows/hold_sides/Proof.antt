@@ -1,31 +1,44 @@
+-- `forbidden_boxes::rows::hold_sides` meets its contract. The invariant: the holds that are closed are in the row, those to close are yet to come (`Gathering`).
 use Prim.Native.Nat.{_+_, _*_, _-_, _<_}
 use native.Mathlib.Omega.{arith}
+use mathlib.Core.Path.{_≡_, sym, _∙_}
 use lib.ListN.{length}
 use borrow.Author.Needs.{scaled-fits}
-use Rattle.plan_words.proofs.side.Reads as side-reads
-use Rattle.forbidden_boxes.proofs.Gather.{Walk, few, begins, claims, releases, passed, ends}
+use Rattle.model.specs.Set.{deviceOf, at}
+use Rattle.model.specs.Layout.{actionOf}
+use Rattle.forbidden_boxes.specs.Rows.{ROW}
+use Rattle.forbidden_boxes.proofs.Gather.{Gathering, few, begins, claims, releases, passed, ends}
 use Rattle.forbidden_boxes.proofs.rows.hold_sides.Statement.{statement}
 use Rattle.forbidden_boxes.proofs.rows.hold_sides.Tie as tie
-use Rattle.forbidden_boxes.proofs.rows.hold_sides.Reads as reads
-use Rattle.forbidden_boxes.proofs.rows.hold_sides.Lts as lts
 
 abbrev Inv-loop : tie.InvT-loop
-Inv-loop words start actions device task rows₀ count₀ low₀ p₀ rows count low p = Walk words start actions device task rows₀ rows count low p
+Inv-loop words start len device task rows₀ count₀ low₀ p₀ rows count low p = Gathering words start len device task rows₀ rows count low p
 
 abbrev μ-loop : tie.MeasureT-loop
-μ-loop words start actions device task rows₀ count₀ low₀ p₀ rows count low p = actions - p
+μ-loop words start len device task rows₀ count₀ low₀ p₀ rows count low p = len - p
+
+-- the function's start, and the turn in which an action on the device was found
+abbrev begun : tie.In-loop Inv-loop μ-loop → tie.Start Inv-loop μ-loop
+begun c = c .before .before .before .before
+
+abbrev turn : tie.Then1 Inv-loop μ-loop → tie.In-loop Inv-loop μ-loop
+turn c = c .before .before .before
+
+-- that action names the device
+named : (c : tie.Then1 Inv-loop μ-loop) → (let s = begun (turn c) in deviceOf (actionOf (at (s .args .words .now) (s .args .start + turn c .before .loop .p))) ≡ s .args .device)
+named c = sym (c .before .device .ensures) ∙ c .if1 .taken
 
 -- a side word that is stored has room in the task's row
-room : (c : lts.After-side (side-reads.Asked, side-reads.Learnt) reads.Pre reads.Post Inv-loop μ-loop)
-    → (let o = c .before .before .before .before .before .loop in
-    c .before .before .before .before .before .before .before .before .args .task * 128 + o .count < length (o .rows))
+room : (c : tie.After-side Inv-loop μ-loop)
+    → (let i = turn (c .before .before .before) in begun i .args .task * ROW + i .before .loop .count < length (i .before .loop .rows))
 room c =
-    let o = c .before .before .before .before .before .loop in
-    let s = c .before .before .before .before .before .before .before .before in
+    let i = turn (c .before .before .before) in
+    let o = i .before .loop in
+    let s = begun i in
     let a = s .args in
     omega (
       arith,
-      few (a .words .now) (a .start) (a .actions) (a .device) (a .task) (a .rows .now) (s .pre .1 .1),
+      few (a .words .now) (a .start) (a .len) (a .device) (a .task) (a .rows .now) (s .pre .1 .1),
       o .inv .closed,
       o .inv .same,
     )
@@ -34,24 +47,30 @@ loop-holds : tie.Need-loop-holds Inv-loop μ-loop
 loop-holds c =
     let s = c .before .before in
     let a = s .args in
-    begins (a .words .now) (a .start) (a .actions) (a .device) (a .task) (a .rows .now) (s .pre .1 .1)
+    begins (a .words .now) (a .start) (a .len) (a .device) (a .task) (a .rows .now) (s .pre .1 .1)
 
 cast-word : tie.Need-cast-word Inv-loop μ-loop
 cast-word c = omega arith
 
 add-word : tie.Need-add-word Inv-loop μ-loop
-add-word c = omega (arith, c .before .before .before .before .pre .1 .1 .inside (c .before .loop .p) (c .loop-test .taken))
+add-word c = omega (arith, begun c .pre .1 .1 .inside (c .before .loop .p) (c .loop-test .taken))
 
 mul-word : tie.Need-mul-word Inv-loop μ-loop
 mul-word c =
-    let s = c .before .before .before .before in
+    let s = begun c in
     scaled-fits _ _ 4 (s .pre .1 .1 .inside (c .before .loop .p) (c .loop-test .taken)) (s .good .0 .1)
 
 shared-slice-read-word : tie.Need-shared-slice-read-word Inv-loop μ-loop
-shared-slice-read-word c = c .before .before .before .before .before .pre .1 .1 .inside (c .before .before .loop .p) (c .before .loop-test .taken)
+shared-slice-read-word c = begun (c .before) .pre .1 .1 .inside (c .before .before .loop .p) (c .before .loop-test .taken)
 
 add-next : tie.Need-add-next Inv-loop μ-loop
 add-next c = omega arith
+
+device-requires : tie.Need-device-requires Inv-loop μ-loop
+device-requires c κs = tt
+
+is-claim-requires : tie.Need-is-claim-requires Inv-loop μ-loop
+is-claim-requires c κs = tt
 
 side-requires : tie.Need-side-requires Inv-loop μ-loop
 side-requires c κs = omega arith
@@ -63,7 +82,7 @@ add-rows : tie.Need-add-rows Inv-loop μ-loop
 add-rows c = omega (arith, room c)
 
 mul-rows-2 : tie.Need-mul-rows-2 Inv-loop μ-loop
-mul-rows-2 c = omega (arith, room c, c .before .before .before .before .before .loop .inv .same)
+mul-rows-2 c = omega (arith, room c, turn (c .before .before .before) .before .loop .inv .same)
 
 slice-write-rows : tie.Need-slice-write-rows Inv-loop μ-loop
 slice-write-rows c = room c
@@ -77,11 +96,12 @@ loop-less c = omega arith
 -- after a claim
 loop-again : tie.Need-loop-again Inv-loop μ-loop
 loop-again c =
-    let s = c .before .before .before .before .before .before .before in
+    let f = c .before .before in
+    let i = turn f in
+    let s = begun i in
     let a = s .args in
-    let h = c .before .before .before .loop-test .taken in
-    claims (a .words .now) (a .start) (a .actions) (a .device) (a .task) (a .rows .now) (s .pre .1 .1) (c .before .before .before .before .loop .inv) h
-    (c .before .if1 .taken) (c .if2 .taken)
+    claims (a .words .now) (a .start) (a .len) (a .device) (a .task) (a .rows .now) (s .pre .1 .1) (i .before .loop .inv) (i .loop-test .taken)
+    (named f) (sym (c .before .is-claim .ensures) ∙ c .if2 .taken)
 
 loop-less-2 : tie.Need-loop-less-2 Inv-loop μ-loop
 loop-less-2 c = omega arith
@@ -89,13 +109,13 @@ loop-less-2 c = omega arith
 -- after a release
 loop-again-2 : tie.Need-loop-again-2 Inv-loop μ-loop
 loop-again-2 c =
-    let s = c .before .before .before .before .before .before .before .before in
+    let f = c .before .before .before in
+    let i = turn f in
+    let s = begun i in
     let a = s .args in
-    let o = c .before .before .before .before .before .loop in
-    let h = c .before .before .before .before .loop-test .taken in
     rw (c .side .ensures)
-    (releases (a .words .now) (a .start) (a .actions) (a .device) (a .task) (a .rows .now) (s .pre .1 .1) (o .inv) h (c .before .before .if1 .taken)
-    (c .before .if2 .left) (omega arith) (omega arith))
+    (releases (a .words .now) (a .start) (a .len) (a .device) (a .task) (a .rows .now) (s .pre .1 .1) (i .before .loop .inv) (i .loop-test .taken)
+    (named f) (sym (c .before .before .is-claim .ensures) ∙ c .before .if2 .left) (omega arith) (omega arith))
 
 loop-less-3 : tie.Need-loop-less-3 Inv-loop μ-loop
 loop-less-3 c = omega arith
@@ -103,11 +123,11 @@ loop-less-3 c = omega arith
 -- after an action on another device
 loop-again-3 : tie.Need-loop-again-3 Inv-loop μ-loop
 loop-again-3 c =
-    let s = c .before .before .before .before .before .before in
+    let i = c .before .before .before in
+    let s = begun i in
     let a = s .args in
-    let o = c .before .before .before .loop in
-    let h = c .before .before .loop-test .taken in
-    passed (a .words .now) (a .start) (a .actions) (a .device) (a .task) (a .rows .now) (s .pre .1 .1) (o .inv) h (c .if1 .left)
+    passed (a .words .now) (a .start) (a .len) (a .device) (a .task) (a .rows .now) (s .pre .1 .1) (i .before .loop .inv) (i .loop-test .taken)
+    (λ e. c .if1 .left (c .before .device .ensures ∙ e))
 
 same-length : tie.Need-same-length Inv-loop μ-loop
 same-length c = c .before .loop .inv .same
@@ -116,8 +136,7 @@ returns : tie.Need-returns Inv-loop μ-loop
 returns c =
     let s = c .before .before .before .before in
     let a = s .args in
-    let good = s .pre .1 .1 in
-    ends (a .words .now) (a .start) (a .actions) (a .device) (a .task) (a .rows .now) good (c .before .loop .inv) (c .loop-test .left) (omega arith)
+    ends (a .words .now) (a .start) (a .len) (a .device) (a .task) (a .rows .now) (s .pre .1 .1) (c .before .loop .inv) (c .loop-test .left) (omega arith)
 
 pub hold-sides-spec : {M : Type 1} → statement M
 hold-sides-spec =
@@ -131,6 +150,8 @@ hold-sides-spec =
     mul-word
     shared-slice-read-word
     add-next
+    device-requires
+    is-claim-requires
     side-requires
     mul-rows
     add-rows

@@ -1,6 +1,7 @@
+-- `forbidden_boxes::rows::task_row` meets its contract: the holds' words, then the one over all positions.
 use native.Mathlib.Omega.{arith}
 use borrow.Author.Needs.{needs}
-use Rattle.forbidden_boxes.proofs.Gather.{row-made}
+use Rattle.forbidden_boxes.proofs.Made.{row-made}
 use Rattle.forbidden_boxes.proofs.rows.task_row.Statement.{statement}
 use Rattle.forbidden_boxes.proofs.rows.task_row.Tie as tie
 
@@ -27,8 +28,9 @@ same-length c = search needs
 
 returns : tie.Need-returns
 returns c =
-    let a = c .before .before .before .before .before .before .before .args in
-    row-made (a .words .now) (a .start) (a .actions) (a .device) (a .task) (a .rows .now) _ _ _ (c .before .before .before .hold-sides .ensures) (omega arith)
+    let h = c .before .before .before in
+    let a = h .before .before .before .before .args in
+    row-made (a .words .now) (a .start) (a .len) (a .device) (a .task) (a .rows .now) _ _ _ (h .hold-sides .ensures) (omega arith)
     (c .side .ensures)
 
 pub task-row-spec : {M : Type 1} → statement M

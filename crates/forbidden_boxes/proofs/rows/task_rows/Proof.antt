@@ -1,42 +1,55 @@
+-- `forbidden_boxes::rows::task_rows` meets its contract. The invariant: the rows of the tasks before t are made.
 use Prim.Native.Nat.{_-_, _≤_}
 use native.Mathlib.Omega.{arith}
 use mathlib.Core.Path.{sym, _∙_}
+use Rattle.model.specs.Read.{setIn}
+use Rattle.shape.proofs.Declared.{few-tasks}
 use Rattle.forbidden_boxes.specs.Rows.{RowsMade}
-use Rattle.forbidden_boxes.proofs.Gather.{none-made, one-made}
+use Rattle.forbidden_boxes.proofs.Declared.{task-read, acts}
+use Rattle.forbidden_boxes.proofs.Made.{none-made, one-made}
 use Rattle.forbidden_boxes.proofs.rows.task_rows.Statement.{statement}
 use Rattle.forbidden_boxes.proofs.rows.task_rows.Tie as tie
 
 abbrev Inv-loop : tie.InvT-loop
-Inv-loop words tasks device rows₀ actions starts counts₀ t₀ rows counts t = RowsMade words t actions starts device counts rows × (t ≤ tasks)
+Inv-loop words device rows₀ shape holds₀ t₀ rows holds t = RowsMade (setIn words) t device holds rows × (t ≤ shape .tasks) × (shape .tasks ≤ 8)
 
 abbrev μ-loop : tie.MeasureT-loop
-μ-loop words tasks device rows₀ actions starts counts₀ t₀ rows counts t = tasks - t
+μ-loop words device rows₀ shape holds₀ t₀ rows holds t = shape .tasks - t
+
+-- the function's start, and the turn in which a row was made
+abbrev begun : tie.In-loop Inv-loop μ-loop → tie.Start Inv-loop μ-loop
+begun c = c .before .before .before .before
+
+abbrev turn : tie.After-task-row Inv-loop μ-loop → tie.In-loop Inv-loop μ-loop
+turn c = c .before .before .before .before
 
 loop-holds : tie.Need-loop-holds Inv-loop μ-loop
 loop-holds c =
-    let a = c .before .before .args in
-    (none-made (a .words .now) (a .t3) (a .t4) (a .device) (a .rows .now) (c .before .before .pre .1 .0), omega arith)
+    let s = c .before .before in
+    let a = s .args in
+    (none-made (setIn (a .words .now)) (a .device) (a .rows .now) (s .pre .1), omega arith, few-tasks (s .pre .0))
 
 mul-task-row : tie.Need-mul-task-row Inv-loop μ-loop
 mul-task-row c = omega arith
 
-array-read-task-row : tie.Need-array-read-task-row Inv-loop μ-loop
-array-read-task-row c = omega arith
+element-copy-out-task-row : tie.Need-element-copy-out-task-row Inv-loop μ-loop
+element-copy-out-task-row c = omega arith
 
-array-read-task-row-2 : tie.Need-array-read-task-row-2 Inv-loop μ-loop
-array-read-task-row-2 c = omega arith
+element-copy-out-task-row-2 : tie.Need-element-copy-out-task-row-2 Inv-loop μ-loop
+element-copy-out-task-row-2 c = omega arith
 
 task-row-requires : tie.Need-task-row-requires Inv-loop μ-loop
 task-row-requires c κs =
-    let o = c .before .before .loop in
-    let acts = c .before .before .before .before .before .pre .1 .1 in
-    (omega arith, (o .inv .0 .sized .eight-rows, acts (o .t) (c .before .loop-test .taken)))
+    let i = c .before .before .before in
+    let s = begun i in
+    let o = i .before .loop in
+    (omega arith, (o .inv .0 .sized .eight-rows, acts (s .pre .0) (s .args .device) (o .t) (i .loop-test .taken)))
 
-mul-counts : tie.Need-mul-counts Inv-loop μ-loop
-mul-counts c = omega arith
+mul-holds : tie.Need-mul-holds Inv-loop μ-loop
+mul-holds c = omega arith
 
-array-write-counts : tie.Need-array-write-counts Inv-loop μ-loop
-array-write-counts c = omega (arith, c .before .before .before .before .before .loop .inv .0 .sized .eight-counts)
+array-write-holds : tie.Need-array-write-holds Inv-loop μ-loop
+array-write-holds c = omega arith
 
 add-t : tie.Need-add-t Inv-loop μ-loop
 add-t c = omega arith
@@ -46,13 +59,16 @@ loop-less c = omega arith
 
 loop-again : tie.Need-loop-again Inv-loop μ-loop
 loop-again c =
-    let a = c .before .before .before .before .before .before .before .before .args in
-    let o = c .before .before .before .before .before .loop in
-    let r = c .before .before .task-row in
-    (one-made (a .words .now) (a .t3) (a .t4) (a .device) (o .inv .0) (omega arith) (r .kept .1 .1 .1 .1 .1 .0) (r .ensures), omega arith)
+    let made = c .before .before in
+    let i = turn made in
+    let s = begun i in
+    let a = s .args in
+    let o = i .before .loop in
+    let r = made .task-row in
+    (one-made (setIn (a .words .now)) (a .device) (o .inv .0) (omega arith) (r .kept .1 .1 .1 .1 .1 .0) (task-read (s .pre .0) (o .t)) (r .ensures), omega arith, o .inv .2)
 
 same-length : tie.Need-same-length Inv-loop μ-loop
-same-length c = c .before .loop .inv .0 .sized .eight-rows ∙ sym (c .before .before .before .before .pre .1 .0)
+same-length c = c .before .loop .inv .0 .sized .eight-rows ∙ sym (c .before .before .before .before .pre .1)
 
 returns : tie.Need-returns Inv-loop μ-loop
 returns c =
@@ -67,11 +83,11 @@ task-rows-spec =
     μ-loop
     loop-holds
     mul-task-row
-    array-read-task-row
-    array-read-task-row-2
+    element-copy-out-task-row
+    element-copy-out-task-row-2
     task-row-requires
-    mul-counts
-    array-write-counts
+    mul-holds
+    array-write-holds
     add-t
     loop-less
     loop-again

@@ -1,3 +1,4 @@
+-- `forbidden_boxes::sets::set_boxes` meets its contract: a set that is wanted has a task of those that are there, as `choices` asks.
 use Prim.Native.Nat.{_+_, _^_}
 use native.Mathlib.Omega.{arith}
 use mathlib.Core.Path.{sym, _∙_}
@@ -5,10 +6,10 @@ use lib.Count.{ones}
 use lib.Dec.{ltb, eqb}
 use borrow.Author.Needs.{needs}
 use borrow.Author.Tests.{ltb-true, eqb-true}
-use Rattle.model.proofs.Tests.{and-true}
+use Rattle.model.proofs.Bools.{and-true}
 use Rattle.plan_words.proofs.After.{wrote-none}
 use Rattle.forbidden_boxes.specs.Choices.{setWords}
-use Rattle.forbidden_boxes.proofs.Sides.{not-empty}
+use Rattle.forbidden_boxes.proofs.Chosen.{not-empty}
 use Rattle.forbidden_boxes.proofs.sets.set_boxes.Statement.{statement}
 use Rattle.forbidden_boxes.proofs.sets.set_boxes.Tie as tie
 
@@ -17,10 +18,11 @@ wanted-requires c κs = search needs
 
 choices-requires : tie.Need-choices-requires
 choices-requires c κs =
-    let s = c .before .before .before .before .before .before in
+    let w = c .before .before in
+    let s = w .before .before .before .before in
     let a = s .args in
     let r = s .pre .1 .1 in
-    let yes = sym (c .before .before .wanted .ensures) ∙ c .before .if1 .taken in
+    let yes = sym (w .wanted .ensures) ∙ c .before .if1 .taken in
     let tests = and-true (ltb (a .mask) (2 ^ a .tasks)) (eqb (ones (a .mask)) (a .capacity + 1)) yes in
     let fits = ltb-true (a .mask) (2 ^ a .tasks) (tests .0) in
     let some = not-empty (a .mask) (a .capacity) (eqb-true (ones (a .mask)) (a .capacity + 1) (tests .1)) in

@@ -1,3 +1,4 @@
+-- `forbidden_boxes::sets::wanted` meets its contract: 1 shifted by the number of tasks is 2 to that power.
 use Prim.Native.Nat.{ℕ, _*_, _%_, _^_, _≤_, _<_}
 use native.Mathlib.Nat.{one-mul}
 use native.Mathlib.Omega.{arith}

@@ -1,26 +1,44 @@
 -- `reader::run::read_actions` meets its contract. The invariant: the words up to i led to the scan in which the task has an action for each since its start.
--- Assumes nothing.
 use borrow.Author.Needs.{needs}
-use borrow.Author.Tests.{ltb-false, leb-false}
+use borrow.Author.Tests.{ltb-true, ltb-false, eqb-true, eqb-false, eq-eqb, ne-eqb}
 use Prim.Native.Nat.{ℕ, _-_, _≤_, _<_}
 use native.Mathlib.Omega.{arith}
-use lib.ListN.{length, getD}
-use Rattle.model.specs.Layout.{fieldOf}
-use Rattle.reader.specs.declared.Shape.{Shape}
-use Rattle.reader.specs.Follow.{Reached, beforeEnd, counted, Opened}
-use Rattle.reader.proofs.Going.{bounded, no-action, one-action}
+use mathlib.Core.Path.{_≡_}
+use mathlib.Core.Bool.{Bool, true, false, cond}
+use lib.Dec.{eqb}
+use lib.ListN.{length}
+use Rattle.model.specs.Set.{at}
+use Rattle.model.specs.Layout.{kindOf, fieldOf}
+use Rattle.model.proofs.Bools.{by-bool, by-cases}
+use Rattle.reader.specs.declared.scan.Scan.{Scan}
+use Rattle.reader.specs.Faults.{actionFault}
+use Rattle.reader.specs.Follow.{Reached, counted, Opened}
+use Rattle.reader.proofs.FaultLaws.{action-kept}
+use Rattle.reader.proofs.Going.{few-devices, no-action, one-action}
 use Rattle.reader.proofs.run.read_actions.Statement.{statement}
 use Rattle.reader.proofs.run.read_actions.Tie as tie
 
 abbrev Inv-loop : tie.InvT-loop
-Inv-loop words from devices held₀ i₀ held i =
-    (from ≤ i) × (i - from ≤ 255) × ((shape : Shape) → Opened words shape held₀ devices from → Reached words (beforeEnd (counted shape (i - from)) held) i)
+Inv-loop words from devices tasks held₀ i₀ held i =
+    (from ≤ i) × (i - from ≤ 255) × ((s : Scan) → Opened words s devices tasks held₀ from → Reached words (counted s (i - from) held) i)
 
 abbrev μ-loop : tie.MeasureT-loop
-μ-loop words from devices held₀ i₀ held i = length words - i
+μ-loop words from devices tasks held₀ i₀ held i = length words - i
+
+-- a kind between CLAIM and RELEASE is one of them, and each is told by whether it is CLAIM
+kind-of-action : (k : ℕ) → 3 ≤ k → k ≤ 4 → k ≡ cond (eqb k 3) 3 4
+kind-of-action k h l = by-bool (eqb k 3) (λ e. rw e (eqb-true k 3 e)) λ e. rw e (omega (arith, eqb-false k 3 e))
+
+told-by : (b : Bool) (k : ℕ) → k ≡ cond b 3 4 → eqb k 3 ≡ b
+told-by true k e = eq-eqb k 3 e
+told-by false k e = ne-eqb k 3 (λ z. omega (arith, e))
+
+an-action : (b : Bool) → (3 ≤ cond b 3 4) × (cond b 3 4 ≤ 4)
+an-action true = (omega arith, omega arith)
+an-action false = (omega arith, omega arith)
 
 loop-holds : tie.Need-loop-holds Inv-loop μ-loop
-loop-holds c = (omega arith, omega arith, λ shape o. no-action _ shape _ _ _ o)
+loop-holds c = (omega arith, omega arith, λ s o. no-action _ s _ _ _ _ o)
 
 mul-word : tie.Need-mul-word Inv-loop μ-loop
 mul-word c = search needs
@@ -28,42 +46,84 @@ mul-word c = search needs
 shared-slice-read-word : tie.Need-shared-slice-read-word Inv-loop μ-loop
 shared-slice-read-word c = search needs
 
-cast-device : tie.Need-cast-device Inv-loop μ-loop
-cast-device c = search needs
+kind-requires : tie.Need-kind-requires Inv-loop μ-loop
+kind-requires c κs = search needs
 
 returns : tie.Need-returns Inv-loop μ-loop
-returns c = c .before .before .before .loop .inv
+returns c =
+    let k = c .before in
+    let inv = k .before .before .before .loop .inv in (
+      inv .0,
+      inv .1,
+      (λ h b e.
+          let range = an-action b in
+          absurd
+          (by-cases (c .if1 .came) (λ x. omega (arith, range .0, e, k .kind .ensures, x .taken)) λ y.
+          omega (arith, range .1, e, k .kind .ensures, ltb-true 4 (k .kind .result) (y .1 .taken)))),
+      inv .2,
+    )
 
-cast-if4 : tie.Need-cast-if4 Inv-loop μ-loop
-cast-if4 c = search needs
+-- the devices fit in the array
+few : (c : tie.At-loop Inv-loop μ-loop) → c .before .before .args .devices ≤ 16
+few c = let o = c .before .before .pre .1 in omega (arith, o .device-count, few-devices _ _ _ (o .reached))
 
-sub-if4 : tie.Need-sub-if4 Inv-loop μ-loop
-sub-if4 c = search needs
+field-requires : tie.Need-field-requires Inv-loop μ-loop
+field-requires c κs = search needs
 
--- the action's device is declared, past the tests on its kind and field
-module _ (c : tie.Else3 Inv-loop μ-loop) where
-  abbrev at : tie.At-loop Inv-loop μ-loop
-  at = c .before .before .before .before .before
+sub-action-fault : tie.Need-sub-action-fault Inv-loop μ-loop
+sub-action-fault c = search needs
 
-  abbrev device : ℕ
-  device = fieldOf (getD (at .before .args .words .now) (at .loop .i) 0)
-
-  named : device < at .before .args .devices
-  named = leb-false _ device (c .if3 .left)
-
-  in-array : device < 16
-  in-array =
-      let o = at .before .pre in
-      omega (arith, named, o .1 .named, bounded _ _ _ (o .1 .reached) .devices)
-
-element-copy-out-if5 : tie.Need-element-copy-out-if5 Inv-loop μ-loop
-element-copy-out-if5 c = in-array (c .before)
+action-fault-requires : tie.Need-action-fault-requires Inv-loop μ-loop
+action-fault-requires c κs = let told = c .before .before .before .before in few (told .before .before .before)
 
 returns-2 : tie.Need-returns-2 Inv-loop μ-loop
-returns-2 c = c .before .before .before .before .before .before .loop .inv
+returns-2 c =
+    let a = c .before in
+    let d = a .before .before in
+    let k = d .before .before .before in
+    let inv = k .before .before .before .loop .inv in (
+      inv .0,
+      inv .1,
+      (λ h b e. rw (a .action-fault .ensures, d .field .ensures, k .kind .ensures, told-by b _ e) at (c .if3 .taken)),
+      inv .2,
+    )
+
+-- an action without a fault
+module _ (c : tie.Else3 Inv-loop μ-loop) where
+  abbrev ranged : tie.Else2 Inv-loop μ-loop
+  ranged = c .before .before .before .before
+
+  abbrev told : tie.After-kind Inv-loop μ-loop
+  told = ranged .before .before
+
+  abbrev here : tie.At-loop Inv-loop μ-loop
+  here = told .before .before .before
+
+  abbrev start : tie.Start Inv-loop μ-loop
+  start = here .before .before
+
+  abbrev word : ℕ
+  word = at (start .args .words .now) (here .loop .i)
+
+  free : actionFault (start .args .devices) (start .args .tasks) (here .loop .i - start .args .from) (here .loop .held) (eqb (kindOf word) 3) (fieldOf word) ≡ 0
+  free =
+      let none : c .before .action-fault .result ≡ 0 = omega (arith, c .if3 .left) in
+      rw (c .before .action-fault .ensures, c .before .before .before .field .ensures, told .kind .ensures) at none
+
+  kind-is : kindOf word ≡ cond (eqb (kindOf word) 3) 3 4
+  kind-is =
+      kind-of-action (kindOf word) (omega (arith, told .kind .ensures, ranged .before .if1 .left))
+      (omega (arith, told .kind .ensures, ltb-false 4 (told .kind .result) (ranged .if2 .left)))
+
+  inside : here .loop .i < length (start .args .words .now)
+  inside = told .before .before .loop-test .taken
+
+cast-held : tie.Need-cast-held Inv-loop μ-loop
+cast-held c = search needs
 
 element-write-held : tie.Need-element-write-held Inv-loop μ-loop
-element-write-held c = in-array (c .before .before .before)
+element-write-held c =
+    omega (arith, action-kept _ _ _ _ _ _ (free c) .0, few (here c), c .before .before .before .field .ensures)
 
 add-i : tie.Need-add-i Inv-loop μ-loop
 add-i c = search needs
@@ -73,19 +133,19 @@ loop-less c = search needs
 
 loop-again : tie.Need-loop-again Inv-loop μ-loop
 loop-again c =
-    let e = c .before .before .before in
-    let k = at e in
-    let inv = k .loop .inv in
-    let room : k .loop .i - k .before .args .from < 255 = c .before .before .if4 .left in (
+    let inv = here c .loop .inv in
+    let room : here c .loop .i - start c .args .from < 255 = action-kept _ _ _ _ _ _ (free c) .1 in (
       omega (arith, inv .0),
       omega (arith, inv .0, room),
-      λ shape o.
-          one-action _ shape _ _ _ o _ _ (inv .2 shape o) (inv .0) (e .before .before .before .before .loop-test .taken) (e .before .before .if1 .left)
-          (ltb-false 4 _ (e .before .if2 .left)) (named e) room (c .if5 .left),
+      λ s o.
+          rw (c .before .before .before .field .ensures, told c .kind .ensures)
+          (one-action _ s _ _ _ _ o _ _ (inv .2 s o) (inv .0) (inside c) _ (kind-is c) (free c)),
     )
 
 returns-3 : tie.Need-returns-3 Inv-loop μ-loop
-returns-3 c = c .before .loop .inv
+returns-3 c =
+    let inv = c .before .loop .inv in
+    (inv .0, inv .1, (λ h. absurd (omega arith)), inv .2)
 
 pub read-actions-spec : {M : Type 1} → statement M
 read-actions-spec =
@@ -96,12 +156,13 @@ read-actions-spec =
     loop-holds
     mul-word
     shared-slice-read-word
-    cast-device
+    kind-requires
     returns
-    cast-if4
-    sub-if4
-    element-copy-out-if5
+    field-requires
+    sub-action-fault
+    action-fault-requires
     returns-2
+    cast-held
     element-write-held
     add-i
     loop-less

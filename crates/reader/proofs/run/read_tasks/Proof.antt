@@ -1,27 +1,32 @@
--- `reader::run::read_tasks` meets its contract. The invariant: the words up to i led to the scan of the tasks noted so far. Assumes nothing.
+-- `reader::run::read_tasks` meets its contract. The invariant: the words up to i led to the scan of the tasks noted so far, and no action goes on there.
 use borrow.Author.Needs.{needs}
-use borrow.Author.Tests.{ltb-false}
-use Prim.Native.Nat.{ℕ, _+_, _-_, _≤_, _<_}
-use mathlib.Core.Path.{_≡_, sym, _∙_}
+use Prim.Native.Nat.{ℕ, _+_, _-_, _<_}
+use mathlib.Core.Path.{_≡_, refl, sym, _∙_}
 use mathlib.Core.List.{List}
 use native.Mathlib.Omega.{arith}
-use lib.ListN.{length, getD}
+use lib.ListN.{length, set}
+use lib.Seq.{getD-set-same}
+use Rattle.model.specs.Set.{at}
 use Rattle.model.specs.Layout.{fieldOf}
-use Rattle.reader.specs.Follow.{Reached, beforeEnd, shaped, Opened}
-use Rattle.reader.proofs.Going.{withTask, opens}
+use Rattle.reader.specs.Faults.{taskFault, actionFault}
+use Rattle.reader.specs.Follow.{Reached, scanned, Opened, NoAction}
+use Rattle.reader.proofs.FaultLaws.{task-kept}
+use Rattle.reader.proofs.Going.{withTask, opens, in-array}
 use Rattle.reader.proofs.run.read_tasks.Statement.{statement}
 use Rattle.reader.proofs.run.read_tasks.Tie as tie
 
 abbrev Inv-loop : tie.InvT-loop
-Inv-loop words from devices actions₀ starts₀ held₀ tasks₀ i₀ actions starts held tasks i =
-    (capacities : List ℕ) → Reached words (beforeEnd (shaped devices capacities 0 actions₀ starts₀) held₀) from
-    → Reached words (beforeEnd (shaped devices capacities tasks actions starts) held) i
+Inv-loop words from devices lengths₀ starts₀ held₀ tasks₀ i₀ lengths starts held tasks i =
+    (tasks ≡ 0 → i ≡ from) × NoAction words devices tasks (at lengths (tasks - 1)) held i
+    × ((capacities : List ℕ) → Reached words (scanned devices capacities 0 lengths₀ starts₀ held₀) from
+    → Reached words (scanned devices capacities tasks lengths starts held) i)
 
 abbrev μ-loop : tie.MeasureT-loop
-μ-loop words from devices actions₀ starts₀ held₀ tasks₀ i₀ actions starts held tasks i = length words - i
+μ-loop words from devices lengths₀ starts₀ held₀ tasks₀ i₀ lengths starts held tasks i = length words - i
 
 loop-holds : tie.Need-loop-holds Inv-loop μ-loop
-loop-holds c = λ capacities at. at
+unfolding actionFault
+loop-holds c = ((λ e. refl), (λ h b e. omega arith), λ capacities before. before)
 
 mul-word : tie.Need-mul-word Inv-loop μ-loop
 mul-word c = search needs
@@ -29,75 +34,107 @@ mul-word c = search needs
 shared-slice-read-word : tie.Need-shared-slice-read-word Inv-loop μ-loop
 shared-slice-read-word c = search needs
 
-holding-requires : tie.Need-holding-requires Inv-loop μ-loop
-holding-requires c κs = search needs
+kind-requires : tie.Need-kind-requires Inv-loop μ-loop
+kind-requires c κs = search needs
+
+field-requires : tie.Need-field-requires Inv-loop μ-loop
+field-requires c κs = search needs
+
+task-fault-requires : tie.Need-task-fault-requires Inv-loop μ-loop
+task-fault-requires c κs = search needs
 
 -- a TASK without a fault
-module _ (c : tie.Else4 Inv-loop μ-loop) where
-  abbrev at : tie.At-loop Inv-loop μ-loop
-  at = c .before .before .before .before .before .before .before .before
+module _ (c : tie.Else2 Inv-loop μ-loop) where
+  abbrev of-kind : tie.Else1 Inv-loop μ-loop
+  of-kind = c .before .before .before .before
+
+  abbrev here : tie.At-loop Inv-loop μ-loop
+  here = of-kind .before .before .before .before
+
+  abbrev start : tie.Start Inv-loop μ-loop
+  start = here .before .before
 
   abbrev words : List ℕ
-  words = at .before .before .args .words .now
+  words = start .args .words .now
 
-  room : at .loop .tasks < 8
-  room = c .before .before .before .if3 .left
+  free : taskFault (here .loop .tasks) (here .loop .held) (fieldOf (at words (here .loop .i))) ≡ 0
+  free =
+      let none : c .before .task-fault .result ≡ 0 = omega (arith, c .if2 .left) in
+      rw (c .before .task-fault .ensures, c .before .before .field .ensures) at none
 
-  no-field : fieldOf (getD words (at .loop .i) 0) ≡ 0
-  no-field = let none : fieldOf (getD words (at .loop .i) 0) ≤ 0 = ltb-false 0 _ (c .before .before .before .before .if2 .left) in omega arith
+  room : here .loop .tasks < 8
+  room = task-kept _ _ _ free .0
+
+  inside : here .loop .i < length words
+  inside = of-kind .before .before .before .loop-test .taken
 
   opened : (capacities : List ℕ)
-      → Reached words (beforeEnd (shaped (at .before .before .args .devices) capacities 0 (at .before .before .args .actions .now)
-      (at .before .before .args .starts .now)) (at .before .before .args .held .now)) (at .before .before .args .from)
-      → Opened words (withTask (shaped (at .before .before .args .devices) capacities (at .loop .tasks) (at .loop .actions) (at .loop .starts)) (at .loop .i))
-      (at .loop .held) (at .before .before .args .devices) (at .loop .i + 1)
+      → Reached words (scanned (start .args .devices) capacities 0 (start .args .lengths .now) (start .args .starts .now) (start .args .held .now))
+      (start .args .from)
+      → Opened words (withTask (scanned (start .args .devices) capacities (here .loop .tasks) (here .loop .lengths) (here .loop .starts) (here .loop .held))
+      (here .loop .i)) (start .args .devices) (here .loop .tasks + 1) (here .loop .held) (here .loop .i + 1)
   opened capacities before =
-      let k = c .before .before .before .before .before in
-      opens _ _ _ _ (at .loop .inv capacities before) (k .before .before .loop-test .taken) (k .if1 .left) no-field room
-      (sym (c .before .holding .ensures) ∙ c .if4 .left)
+      opens _ _ _ (here .loop .inv .2 capacities before) inside (sym (of-kind .before .kind .ensures) ∙ of-kind .if1 .left) free
 
 add-first : tie.Need-add-first Inv-loop μ-loop
 add-first c = search needs
 
 mul-starts : tie.Need-mul-starts Inv-loop μ-loop
-mul-starts c = search needs
+mul-starts c = record { fits = omega (arith, room c) }
 
 element-write-starts : tie.Need-element-write-starts Inv-loop μ-loop
 element-write-starts c = room c
 
+add-read-actions : tie.Need-add-read-actions Inv-loop μ-loop
+add-read-actions c = omega (arith, room c)
+
 read-actions-requires : tie.Need-read-actions-requires Inv-loop μ-loop
-read-actions-requires c κs = let pre = at (c .before) .before .before .pre in (_, opened (c .before) (pre .0) (pre .1))
+read-actions-requires c κs = let pre = start (c .before) .pre in (_, opened (c .before) (pre .0) (pre .1))
 
-sub-actions : tie.Need-sub-actions Inv-loop μ-loop
-sub-actions c = c .read-actions .ensures .0
+sub-lengths : tie.Need-sub-lengths Inv-loop μ-loop
+sub-lengths c = c .read-actions .ensures .0
 
-cast-actions : tie.Need-cast-actions Inv-loop μ-loop
-cast-actions c = omega (arith, c .read-actions .ensures .1)
+cast-lengths : tie.Need-cast-lengths Inv-loop μ-loop
+cast-lengths c = omega (arith, c .read-actions .ensures .1)
 
-element-write-actions : tie.Need-element-write-actions Inv-loop μ-loop
-element-write-actions c = room (c .before .before)
+element-write-lengths : tie.Need-element-write-lengths Inv-loop μ-loop
+element-write-lengths c = room (c .before .before)
 
 add-tasks : tie.Need-add-tasks Inv-loop μ-loop
 add-tasks c = omega (arith, room (c .before .before))
 
 loop-less : tie.Need-loop-less Inv-loop μ-loop
-loop-less c =
-    omega (arith, c .read-actions .ensures .0, c .before .before .before .before .before .before .before .before .before .loop-test .taken)
+loop-less c = omega (arith, c .read-actions .ensures .0, inside (c .before .before))
 
 loop-again : tie.Need-loop-again Inv-loop μ-loop
-loop-again c = λ capacities before.
+loop-again c =
     let e = c .before .before in
-    let last : at e .loop .tasks + 1 - 1 ≡ at e .loop .tasks = omega arith in
-    rw last at (c .read-actions .ensures .2 _ (opened e capacities before))
+    let k = here e .loop in
+    let pre = start e .pre in
+    let done = c .read-actions .ensures in
+    let last : k .tasks + 1 - 1 ≡ k .tasks = omega arith in
+    let there : k .tasks < length (k .lengths) = rw last at (in-array _ _ _ _ _ _ (opened e (pre .0) (pre .1))) in
+    let counted : at (set (k .lengths) (k .tasks) (c .read-actions .result - (k .i + 1))) (k .tasks + 1 - 1) ≡ c .read-actions .result - (k .i + 1) =
+    rw last (getD-set-same (k .lengths) (k .tasks) (c .read-actions .result - (k .i + 1)) 0 there) in (
+      (λ z. absurd (omega arith)),
+      (λ h b z. rw counted (done .2 h b z)),
+      λ capacities before. rw last at (done .3 _ (opened e capacities before)),
+    )
 
 returns : tie.Need-returns Inv-loop μ-loop
-returns c = c .before .loop .inv
+returns c = let inv = c .before .loop .inv in (inv .0, (λ h. absurd (omega arith)), inv .1, inv .2)
 
 returns-2 : tie.Need-returns-2 Inv-loop μ-loop
-returns-2 c = c .before .before .before .loop .inv
+returns-2 c =
+    let inv = c .before .before .before .before .loop .inv in
+    (inv .0, (λ h e. absurd (c .if1 .taken (c .before .kind .ensures ∙ e))), inv .1, inv .2)
 
 returns-3 : tie.Need-returns-3 Inv-loop μ-loop
-returns-3 c = c .before .before .before .before .before .loop .inv
+returns-3 c =
+    let t = c .before in
+    let of-kind = t .before .before .before in
+    let inv = of-kind .before .before .before .before .loop .inv in
+    (inv .0, (λ h e. rw (t .task-fault .ensures, t .before .field .ensures) at (c .if2 .taken)), inv .1, inv .2)
 
 pub read-tasks-spec : {M : Type 1} → statement M
 read-tasks-spec =
@@ -108,14 +145,17 @@ read-tasks-spec =
     loop-holds
     mul-word
     shared-slice-read-word
-    holding-requires
+    kind-requires
+    field-requires
+    task-fault-requires
     add-first
     mul-starts
     element-write-starts
+    add-read-actions
     read-actions-requires
-    sub-actions
-    cast-actions
-    element-write-actions
+    sub-lengths
+    cast-lengths
+    element-write-lengths
     add-tasks
     loop-less
     loop-again

@@ -1,0 +1,2 @@
+-- Counting: counts of the numbers that pass a test.
+pub mod Counting

@@ -1,0 +1,51 @@
+// What the programs write to standard output: text, numbers, refusals, and the answers of the calls.
+use analysis::Outcome;
+use broker::AgainAnswer;
+use broker::BidAnswer;
+use libc::STDOUT_FILENO;
+
+pub fn text(bytes: &[u8]) {
+    io::write_all(STDOUT_FILENO, bytes);
+}
+
+pub fn number(n: usize) {
+    io::print_decimal(STDOUT_FILENO, n as u64);
+}
+
+// A number behind its text.
+pub fn named(name: &[u8], n: usize) {
+    text(name);
+    number(n);
+}
+
+pub fn refusal(number: u8, place: usize) {
+    named(b"refused ", number as usize);
+    named(b" at ", place);
+}
+
+// What an analysis answered.
+pub fn outcome(said: Outcome) {
+    match said {
+        Outcome::Planned { words } => named(b"planned ", words),
+        Outcome::Refused { number, place } => refusal(number, place),
+    }
+}
+
+// What a bid answered.
+pub fn bid(said: BidAnswer) {
+    match said {
+        BidAnswer::Granted => text(b"granted"),
+        BidAnswer::Finished => text(b"finished"),
+        BidAnswer::Busy { device } => named(b"busy ", device as usize),
+        BidAnswer::Held { rank } => named(b"held ", rank),
+        BidAnswer::Refused { number, place } => refusal(number, place),
+    }
+}
+
+// What an again answered.
+pub fn again(said: AgainAnswer) {
+    match said {
+        AgainAnswer::Restarted => text(b"restarted"),
+        AgainAnswer::Refused { number, place } => refusal(number, place),
+    }
+}

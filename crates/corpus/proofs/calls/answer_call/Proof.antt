@@ -1,0 +1,60 @@
+-- `corpus::calls::answer_call` meets its contract: no more of the map is lent than there is.
+use mathlib.Core.Path.{sym}
+use native.Mathlib.Omega.{arith}
+use lib.Seq.{length-take-le}
+use borrow.Author.Needs.{needs}
+use Rattle.corpus.proofs.calls.answer_call.Statement.{statement}
+use Rattle.corpus.proofs.calls.answer_call.Tie as tie
+
+least-requires : tie.Need-least-requires
+least-requires c κs = search needs
+
+record-of-requires : tie.Need-record-of-requires
+record-of-requires c κs = search needs
+
+cast-t11 : tie.Need-cast-t11
+cast-t11 c = search needs
+
+slice-aggregate-show-route : tie.Need-slice-aggregate-show-route
+slice-aggregate-show-route c = sym (length-take-le _ _ (omega arith))
+
+cast-show-route : tie.Need-cast-show-route
+cast-show-route c = search needs
+
+show-route-requires : tie.Need-show-route-requires
+show-route-requires c κs = search needs
+
+slice-aggregate-show-served : tie.Need-slice-aggregate-show-served
+slice-aggregate-show-served c = sym (length-take-le _ _ (omega arith))
+
+show-served-requires : tie.Need-show-served-requires
+show-served-requires c κs = search needs
+
+returns : tie.Need-returns
+returns c = search needs
+
+returns-2 : tie.Need-returns-2
+returns-2 c = search needs
+
+returns-3 : tie.Need-returns-3
+returns-3 c = search needs
+
+returns-4 : tie.Need-returns-4
+returns-4 c = search needs
+
+pub answer-call-spec : {M : Type 1} → statement M
+answer-call-spec =
+    tie.close
+    (tie.spec
+    least-requires
+    record-of-requires
+    cast-t11
+    slice-aggregate-show-route
+    cast-show-route
+    show-route-requires
+    slice-aggregate-show-served
+    show-served-requires
+    returns
+    returns-2
+    returns-3
+    returns-4)

@@ -1,0 +1,63 @@
+-- `corpus::calls::play_calls` meets its contract. The invariant: the map keeps its length. A call's four words lie within the list.
+use mathlib.Core.Path.{_≡_, refl, _∙_}
+use Prim.Native.Nat.{_-_, _/_}
+use native.Mathlib.Omega.{arith}
+use lib.ListN.{length}
+use borrow.Author.Needs.{needs}
+use Rattle.corpus.proofs.calls.play_calls.Statement.{statement}
+use Rattle.corpus.proofs.calls.play_calls.Tie as tie
+
+abbrev Inv-loop : tie.InvT-loop
+Inv-loop words list map₀ play₀ k₀ map play k = length map ≡ length map₀
+
+abbrev μ-loop : tie.MeasureT-loop
+μ-loop words list map₀ play₀ k₀ map play k = length list / 4 - k
+
+fresh-requires : tie.Need-fresh-requires Inv-loop μ-loop
+fresh-requires c κs = search needs
+
+loop-holds : tie.Need-loop-holds Inv-loop μ-loop
+loop-holds c = refl
+
+mul-call-at : tie.Need-mul-call-at Inv-loop μ-loop
+mul-call-at c = omega arith
+
+call-at-requires : tie.Need-call-at-requires Inv-loop μ-loop
+call-at-requires c κs = omega arith
+
+play-call-requires : tie.Need-play-call-requires Inv-loop μ-loop
+play-call-requires c κs = search needs
+
+add-k : tie.Need-add-k Inv-loop μ-loop
+add-k c = omega arith
+
+loop-less : tie.Need-loop-less Inv-loop μ-loop
+loop-less c = omega arith
+
+loop-again : tie.Need-loop-again Inv-loop μ-loop
+loop-again c =
+    let played = c .before .before in
+    played .play-call .kept .1 .0 ∙ played .before .before .before .before .loop .inv
+
+same-length : tie.Need-same-length Inv-loop μ-loop
+same-length c = c .before .loop .inv
+
+returns : tie.Need-returns Inv-loop μ-loop
+returns c = search needs
+
+pub play-calls-spec : {M : Type 1} → statement M
+play-calls-spec =
+    tie.close
+    (tie.spec
+    Inv-loop
+    μ-loop
+    fresh-requires
+    loop-holds
+    mul-call-at
+    call-at-requires
+    play-call-requires
+    add-k
+    loop-less
+    loop-again
+    same-length
+    returns)

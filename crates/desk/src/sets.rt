@@ -1,0 +1,91 @@
+// The sets of examples a and d to k, word by word as document 01 has them, and the analyses of those that no call is made on.
+use crate::lines::UNTOUCHED;
+use crate::lines::analyse_line;
+use crate::lines::map_line;
+
+pub const A: [u32; 13] = [
+    0x1000_0001,
+    0x1000_0001,
+    0x2000_0000,
+    0x3000_0000,
+    0x3000_0001,
+    0x4000_0001,
+    0x4000_0000,
+    0x2000_0000,
+    0x3000_0001,
+    0x3000_0000,
+    0x4000_0000,
+    0x4000_0001,
+    0x5000_000C,
+];
+
+pub const GRID_OF_A: usize = 25;
+
+const D: [u32; 18] = [
+    0x1000_0001,
+    0x1000_0001,
+    0x1000_0001,
+    0x2000_0000,
+    0x3000_0002,
+    0x3000_0000,
+    0x4000_0002,
+    0x3000_0001,
+    0x4000_0001,
+    0x4000_0000,
+    0x2000_0000,
+    0x3000_0001,
+    0x3000_0002,
+    0x4000_0002,
+    0x3000_0000,
+    0x4000_0000,
+    0x4000_0001,
+    0x5000_0011,
+];
+
+const GRID_OF_D: usize = 49;
+
+const E: [u32; 11] = [
+    0x1000_0002,
+    0x2000_0000,
+    0x3000_0000,
+    0x4000_0000,
+    0x2000_0000,
+    0x3000_0000,
+    0x4000_0000,
+    0x2000_0000,
+    0x3000_0000,
+    0x4000_0000,
+    0x5000_000A,
+];
+
+const GRID_OF_E: usize = 27;
+
+// Examples d and e.
+pub fn mapped_sets() {
+    let d = D;
+    let mut map_of_d = [UNTOUCHED; GRID_OF_D];
+    map_line(b"d", &d, &mut map_of_d);
+    let e = E;
+    let mut map_of_e = [UNTOUCHED; GRID_OF_E];
+    map_line(b"e", &e, &mut map_of_e);
+}
+
+// Examples f to k.
+pub fn small_sets() {
+    let mut map = [0u8; 1];
+    analyse_line(b"f", &[0x2000_0000, 0x5000_0001], &mut map);
+    analyse_line(b"g", &[0x1000_0008, 0x2000_0000, 0x5000_0002], &mut map);
+    analyse_line(b"g, capacity 9", &[0x1000_0009], &mut map);
+    analyse_line(b"h", &[0x3000_0000], &mut map);
+    analyse_line(b"i", &[0x2000_0000], &mut map);
+    analyse_line(
+        b"j",
+        &[0x1000_0001, 0x2000_0000, 0x3000_0000, 0x3000_0000],
+        &mut map,
+    );
+    analyse_line(
+        b"k",
+        &[0x1000_0001, 0x2000_0000, 0x3000_0000, 0x5000_0003],
+        &mut map,
+    );
+}

@@ -1,0 +1,35 @@
+-- The broker's record (document 01, "The broker"), and two tests that calls share: 13 for a lent map, 16 for a record's positions.
+use Prim.Native.Nat.{ℕ}
+use mathlib.Core.Bool.{Bool, cond}
+use mathlib.Core.List.{List}
+use lib.ListN.{length, take, replicate}
+use lib.Dec.{ltb}
+use Rattle.model.specs.Below.{any}
+use Rattle.model.specs.Answer.{Answer, given, refused}
+use Rattle.model.specs.Set.{Set, lengthsOf, at, size}
+use Rattle.model.specs.State.{State}
+
+-- eight positions and a grant number
+pub record Record : Type 0 where
+  pub positions : List ℕ
+  pub grants : ℕ
+
+-- the record that a service starts with: all 0
+abbrev pub fresh : Record
+fresh = record { positions = replicate 8 0; grants = 0 }
+
+-- the state that a record gives the tasks of a set
+abbrev pub stateIn : Set → Record → State
+stateIn s r = take (length (s .tasks)) (r .positions)
+
+-- a position over its L, or not 0 for an absent task, whose L counts as 0
+unfoldable pub misplaced : Set → Record → Bool
+misplaced s r = any 8 (λ t. ltb (at (lengthsOf s) t) (at (r .positions) t))
+
+-- 13: a map slice shorter than the grid; else the grid
+unfoldable pub mapFits : Set → List ℕ → Answer ℕ
+mapFits s m = let grid = size (lengthsOf s) in cond (ltb (length m) grid) (refused 13 grid) (given grid)
+
+-- 16: a record that is misplaced; else its state
+unfoldable pub placed : Set → Record → Answer State
+placed s r = cond (misplaced s r) (refused 16 0) (given (stateIn s r))

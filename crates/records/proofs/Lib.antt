@@ -1,0 +1,2 @@
+-- What the shape of a declared set tells of a record.
+pub mod Placed

@@ -1,0 +1,7 @@
+-- What the code's record says in document 01's terms.
+use Rattle.model.specs.Record as model
+use Rattle.records.specs.declared.Record.{Record}
+
+-- the eight positions and the grant number
+abbrev pub recordOf : Record → model.Record
+recordOf r = record { positions = r .positions; grants = r .grants }
