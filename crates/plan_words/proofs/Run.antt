@@ -60,18 +60,6 @@ module _ (f : ℕ → List ℕ) (p₀ : List ℕ) (at count : ℕ) where
     pub stored-one : {v : ℕ} → f i ≡ v ∷ [] → to < length p → Turn (set p to v) (to + 1) (i + 1)
     stored-one {v} e g = stored (rw e (read-next (wrote-one {v = v} g)))
 
-    -- the i-th number gives nothing
-    pub skipped : f i ≡ [] → Turn p to (i + 1)
-    skipped e =
-        let s : rest i ≡ rest (i + 1) = next i h ∙ ap (λ (l : List ℕ). l ++ rest (i + 1)) e in
-        record {
-          within = omega arith;
-          same = now .same;
-          room = now .room;
-          sum = ap (λ (l : List ℕ). to + length l) (sym s) ∙ now .sum;
-          words = λ k. ap (write p to) (sym s) ∙ now .words k;
-        }
-
     -- what it gives doesn't fit
     pub overflows : {q : List ℕ} → length p < to + length (f i) → Wrote p₀ at (rest 0) Placed.Full q
     overflows w = wrote-full (omega (arith, split))

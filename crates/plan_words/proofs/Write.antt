@@ -33,13 +33,6 @@ write-then p a us vs h =
     ∙ sym (sets-append p a us vs)
     ∙ sets-eq (us ++ vs) p a (omega (arith, length-append us vs))
 
--- one word more
-pub write-one : (p : List ℕ) (a : ℕ) (us : List ℕ) (v : ℕ) → a + length us < length p
-    → set (write p a us) (a + length us) v ≡ write p a (us ++ (v ∷ []))
-write-one p a us v h =
-    sets-eq (v ∷ []) (write p a us) (a + length us) (omega (arith, length-write p a us (omega arith)))
-    ∙ write-then p a us (v ∷ []) (omega arith)
-
 -- the two answers, made
 pub wrote-next : {p : List ℕ} {a : ℕ} {ws : List ℕ} {r : ℕ} {q : List ℕ} → a + length ws ≤ length p → r ≡ a + length ws → q ≡ write p a ws
     → Wrote p a ws (Next r) q

@@ -1,5 +1,5 @@
 -- What a declared set tells of its shape, entry by entry.
-use Prim.Native.Nat.{ℕ, suc, _%_, _<_, _≤_}
+use Prim.Native.Nat.{ℕ, suc, _<_, _≤_}
 use native.Mathlib.Omega.{arith}
 use mathlib.Core.Path.{_≡_, sym, ap, _∙_}
 use mathlib.Core.List.{List, []}
@@ -7,7 +7,6 @@ use lib.ListN.{length, take, length-map, List·getD-map}
 use Rattle.model.specs.Set.{Set, lengthsOf, taskAt, at, size, GoodTask}
 use Rattle.model.specs.State.{weight}
 use Rattle.model.proofs.Lists.{length-tabulate, getD-tabulate}
-use Rattle.model.proofs.Parity.{length-even}
 use Rattle.shape.specs.declared.Shape.{Shape}
 use Rattle.shape.specs.ShapeOf.{padded, startsFrom, weightsOf}
 use Rattle.shape.specs.Declares.{Declares}
@@ -62,10 +61,6 @@ module _ {words : List ℕ} {shape : Shape} {s : Set} (d : Declares words shape 
 
   pub length-is : (t : ℕ) → at (shape .lengths) t ≡ length (taskAt s t)
   length-is t = length-at t ∙ List·getD-map length (s .tasks) t []
-
-  -- each action count is even
-  pub even-length : (t : ℕ) → at (shape .lengths) t % 2 ≡ 0
-  even-length t = rw (length-is t) (length-even s (d .well-formed) t)
 
   -- the first of them are the set's
   pub lengths-taken : take (shape .tasks) (shape .lengths) ≡ lengthsOf s

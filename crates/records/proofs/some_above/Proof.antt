@@ -1,15 +1,14 @@
 -- `records::some_above` meets its contract. The invariant: none of the numbers before t is over its limit.
 use borrow.Author.Needs.{needs}
 use borrow.Author.Tests.{lt-ltb, le-ltb}
-use Prim.Native.Nat.{ℕ, _+_, _-_, _≤_}
+use Prim.Native.Nat.{ℕ, _-_, _≤_}
 use native.Mathlib.Omega.{arith}
 use native.Mathlib.Nat.{le-antisymm}
-use native.Mathlib.Numerals.{add-one}
 use mathlib.Core.Path.{_≡_, refl, sym}
 use mathlib.Core.Bool.{Bool, false}
 use lib.ListN.{length}
 use Rattle.model.specs.Below.{any}
-use Rattle.model.proofs.Bools.{any-intro}
+use Rattle.model.proofs.Bools.{any-more, any-intro}
 use Rattle.records.proofs.Placed.{above}
 use Rattle.records.proofs.some_above.Statement.{statement}
 use Rattle.records.proofs.some_above.Tie as tie
@@ -19,10 +18,6 @@ Inv-loop numbers limits t₀ t = (length numbers ≡ 8) × (length limits ≡ 8)
 
 abbrev μ-loop : tie.MeasureT-loop
 μ-loop numbers limits t₀ t = 8 - t
-
-passed : (f : ℕ → Bool) (t : ℕ) → any t f ≡ false → f t ≡ false → any (t + 1) f ≡ false
-unfolding any
-passed f t e h = rw (add-one t, h) e
 
 done : (f : ℕ → Bool) (t : ℕ) → t ≤ 8 → 8 ≤ t → any t f ≡ false → any 8 f ≡ false
 done f t a b e = rw (le-antisymm b a) e
@@ -52,7 +47,7 @@ loop-again : tie.Need-loop-again Inv-loop μ-loop
 loop-again c =
     let k = c .before .before .before .args in
     let i = c .before .before .loop in
-    (i .inv .0, i .inv .1, search needs, passed (above (k .t2) (k .t1)) (i .t) (i .inv .3) (le-ltb _ _ (c .if1 .left)))
+    (i .inv .0, i .inv .1, search needs, any-more (i .t) (above (k .t2) (k .t1)) (i .inv .3) (le-ltb _ _ (c .if1 .left)))
 
 returns-2 : tie.Need-returns-2 Inv-loop μ-loop
 returns-2 c =

@@ -1,15 +1,14 @@
 -- `reader::rules::still_held` meets its contract. The invariant: none of the devices before i is held.
 use borrow.Author.Needs.{needs}
-use Prim.Native.Nat.{ℕ, _+_, _-_, _≤_}
+use Prim.Native.Nat.{ℕ, _-_, _≤_}
 use mathlib.Core.Path.{_≡_, refl, sym}
 use mathlib.Core.Bool.{Bool, false}
 use mathlib.Core.List.{List}
 use native.Mathlib.Nat.{le-antisymm}
-use native.Mathlib.Numerals.{add-one}
 use native.Mathlib.Omega.{arith}
 use lib.ListN.{getD}
 use Rattle.model.specs.Below.{any}
-use Rattle.model.proofs.Bools.{any-intro}
+use Rattle.model.proofs.Bools.{any-more, any-intro}
 use Rattle.reader.proofs.rules.still_held.Statement.{statement}
 use Rattle.reader.proofs.rules.still_held.Tie as tie
 
@@ -21,10 +20,6 @@ Inv-loop held i₀ i = (i ≤ 16) × (any i (holds held) ≡ false)
 
 abbrev μ-loop : tie.MeasureT-loop
 μ-loop held i₀ i = 16 - i
-
-passed : (l : List Bool) (i : ℕ) → any i (holds l) ≡ false → getD l i false ≡ false → any (i + 1) (holds l) ≡ false
-unfolding any
-passed l i e h = rw (add-one i, h) e
 
 done : (l : List Bool) (i : ℕ) → i ≤ 16 → 16 ≤ i → any i (holds l) ≡ false → any 16 (holds l) ≡ false
 done l i a b e = rw (le-antisymm b a) e
@@ -50,7 +45,7 @@ loop-less c = search needs
 loop-again : tie.Need-loop-again Inv-loop μ-loop
 loop-again c =
     let k = c .before .before .before in
-    (search needs, passed (k .before .args .held .now) (k .loop .i) (k .loop .inv .1) (c .if1 .left))
+    (search needs, any-more (k .loop .i) (holds (k .before .args .held .now)) (k .loop .inv .1) (c .if1 .left))
 
 returns-2 : tie.Need-returns-2 Inv-loop μ-loop
 returns-2 c =
