@@ -1,15 +1,15 @@
 #!/usr/bin/env python3
-"""constants.py [ROOT]: holds the numbers of the proved source, the C header and the Rust interface to document 01 and to each other.
+"""constants.py [ROOT]: holds the numbers of the proved source, the C header and the Rust interface to docs/SCOPE.md and to each other.
 
 The same names with the same values must stand in all three, none missing and none left over: X in the source, ARBITER_X in C, X in Rust; in the
-source and in Rust with the same type. The refusals' texts must be the same in C and Rust. ROOT is the repository, by default the one that
-this file is in.
+source and in Rust with the same type. So must the calls, each marked in C as one whose answer must be used. The refusals' texts must be the same in
+C and Rust. ROOT is the repository, by default the one that this file is in.
 """
 import re
 import sys
 from pathlib import Path
 
-# Document 01's numbers: its limits, and its lists in their order.
+# The numbers of docs/SCOPE.md: its limits, and its lists in their order.
 LIMITS = {
     "MAX_WORDS": 4096,
     "MAX_DEVICES": 16,
@@ -27,8 +27,15 @@ REFUSALS = """
     GRID_TOO_LARGE MAP_TOO_SHORT PLAN_TOO_SHORT BYTES_NOT_WORDS BAD_RECORD NO_SUCH_TASK BAD_MAP_BYTE NOT_AT_END NO_ROUTE ROUTE_TOO_SHORT
     """.split()
 
-# The kinds of an answer are the interface's own.
+# The kinds of an answer, and the version: major times 10,000, minor times 100, patch.
 ANSWER_KINDS = "REFUSED ACCEPTED PLANNED ROUTED GRANTED FINISHED BUSY HELD RESTARTED".split()
+VERSION = {"VERSION": 10000}
+
+# What hosts use and the proved source doesn't know: in the header, and in the package's plain.rs.
+OF_HOSTS = {"NOT_ANALYSED": 0xFF}
+
+# Macros of the header that stand for no number.
+NO_NUMBERS = {"ARBITER_MUST_USE"}
 
 
 def numbered(names, first):
@@ -41,6 +48,7 @@ WANTED = {
     **numbered(MAP_BYTES, 0),
     **numbered(REFUSALS, 1),
     **numbered(ANSWER_KINDS, 0),
+    **VERSION,
 }
 
 complaints = []
@@ -76,6 +84,8 @@ def of_header(path):
     rows = re.findall(r"^[ \t]*#[ \t]*define[ \t]+(\w+)[ \t]+([^\s/]+)", path.read_text(), re.M)
     pairs = []
     for name, value in rows:
+        if name in NO_NUMBERS:
+            continue
         if name.startswith("ARBITER_"):
             pairs.append((name[len("ARBITER_"):], number(value, path.name)))
         else:
@@ -93,6 +103,12 @@ def compare(found, wanted, where, what="value"):
             complaints.append(f"{where}: {name} has the {what} {found[name]!r}, not {wanted[name]!r}")
 
 
+def of_calls(paths, pattern, where):
+    """The calls that this pattern finds at the start of a line, each with its own name as the value."""
+    text = "\n".join(path.read_text() for path in paths)
+    return once([(name, name) for name in re.findall(rf"^\s*{pattern}(arbiter_\w+)\(", text, re.M)], where)
+
+
 def camel(name):
     return "".join(part.capitalize() for part in name.split("_"))
 
@@ -108,11 +124,19 @@ def main(root):
     compare(rust_values, WANTED, "sys.rs")
     both = types.keys() & rust_types.keys()
     compare({name: rust_types[name] for name in both}, {name: types[name] for name in both}, "sys.rs", "type")
-    compare(of_header(header), WANTED, "arbiter.h")
+    compare(of_header(header), {**WANTED, **OF_HOSTS}, "arbiter.h")
+    compare(of_source([root / "hosts/rust/src/plain.rs"], "plain.rs")[0], OF_HOSTS, "plain.rs")
+
+    calls = of_calls(sorted((root / "crates/arbiter/src").glob("*.rt")), r'pub extern "C" fn ', "the source")
+    compare(of_calls([header], r"ARBITER_MUST_USE \w+ ", "arbiter.h"), calls, "arbiter.h", "call that must be used")
+    compare(of_calls([root / "hosts/rust/src/sys.rs"], r"pub fn ", "sys.rs"), calls, "sys.rs", "call")
 
     variants = once(re.findall(r"^\s*(\w+) = sys::(\w+),", safe.read_text(), re.M), "lib.rs")
     compare(variants, {camel(name): name for name in REFUSALS}, "lib.rs", "number")
-    texts = once(re.findall(r'case ARBITER_(\w+):\s*return "([^"]*)";', header.read_text()), "arbiter.h")
+    all_texts = once(re.findall(r'case ARBITER_(\w+):\s*return "([^"]*)";', header.read_text()), "arbiter.h")
+    kind_texts = {name: text for name, text in all_texts.items() if name in ANSWER_KINDS}
+    compare(kind_texts, {name: name.lower() for name in ANSWER_KINDS}, "arbiter.h", "text")
+    texts = {name: text for name, text in all_texts.items() if name not in kind_texts}
     rust_texts = once(re.findall(r'Refusal::(\w+) =>\s*\{?\s*"([^"]*)"', safe.read_text()), "lib.rs")
     compare(texts, {name: texts.get(name, "") for name in REFUSALS}, "arbiter.h", "text")
     compare(rust_texts, {camel(name): text for name, text in texts.items()}, "lib.rs", "text")
@@ -121,7 +145,7 @@ def main(root):
         print(complaint)
     if complaints:
         sys.exit(1)
-    print(f"constants: {len(WANTED)} agree in the source, arbiter.h and sys.rs, and {len(texts)} refusal texts")
+    print(f"constants: {len(WANTED)} and {len(calls)} calls agree in the source, arbiter.h and sys.rs, and {len(texts)} refusal texts")
 
 
 if __name__ == "__main__":

@@ -8,9 +8,14 @@
  * - It uses no heap, no global state, no signal and no callback, and always returns. arbiter_analyse needs some 300 KiB of stack, the others
  *   very little.
  * - No content of a slice or record is undefined input: what a call finds wrong comes back as a refusal.
- * - Every pointer is non-null, also where its length is 0, and aligned for its type; its length counts elements, not bytes.
+ * - Every pointer is non-null, also where its length is 0 (ARBITER_LEND sees to that), and aligned for its type; its length counts elements,
+ *   not bytes.
  * - Memory that a call writes overlaps no other memory lent to the same call, and nobody else uses it meanwhile.
  * - Nothing lent is kept after the call returns.
+ * - Its answer must be looked at; compilers complain of a call whose answer isn't used.
+ *
+ * The calls come first, with their numbers and structs. After them stand conveniences: small functions over the same memory that are compiled
+ * with the host. They are tested, not proved.
  *
  * Constants have the names of the proved source with ARBITER_ before them; hosts/constants.py compares them.
  * For x86-64 with the System V calling convention (Linux and its kin). C99 or later, C++98 or later.
@@ -18,8 +23,16 @@
 #ifndef ARBITER_H
 #define ARBITER_H
 
+#if !defined(__x86_64__) || !defined(__LP64__) || !defined(__ELF__) || defined(_WIN32) || defined(__CYGWIN__)
+#error "libarbiter.a is made for x86-64 with the System V calling convention: 64-bit Linux and its kin, not x32, Windows or another processor"
+#endif
+
 #include <stddef.h>
 #include <stdint.h>
+
+/* The version of this header: major times 10,000, minor times 100, patch. Header and library must be of the same one, since structs and
+ * numbers may differ between two: compare it with arbiter_version() once, when the host starts, and stop if they differ. */
+#define ARBITER_VERSION 10000
 
 /* The limits of a set. */
 #define ARBITER_MAX_WORDS 4096
@@ -51,8 +64,16 @@
 #define ARBITER_UNSAFE 2    /* no steps lead from here to the end */
 #define ARBITER_DEAD 3      /* unsafe, and no task can make a step */
 
+/* Not a byte of a map. OPEN is 0, so a map of zeros that no analysis wrote would grant everything. Fill the slice with this before the analysis,
+ * memset(map, ARBITER_NOT_ANALYSED, map_len): then the first bid on a map that was never written is refused with 16. */
+#define ARBITER_NOT_ANALYSED 0xFF
+
 /* What a refused route leaves in every byte of its slice. */
 #define ARBITER_NO_STEP 255
+
+/* A rank is a state's number, counted from 0: its positions read as one number, task 0 weighing most. With A, B, C the numbers of actions of
+ * tasks 0, 1, 2 and a, b, c their positions, it is (a * (B + 1) + b) * (C + 1) + c, and so on. The map has a state's byte at its rank.
+ * arbiter_positions turns a rank into positions, arbiter_rank positions into a rank. */
 
 /* The kinds of an answer. An answer that is all zeros is a refusal, so that one never filled in can't pass for a grant. */
 #define ARBITER_REFUSED 0   /* the call was turned back; refusal: why; value: the place, see the refusals */
@@ -62,7 +83,7 @@
 #define ARBITER_GRANTED 4   /* arbiter_bid: the task makes its next action now; the record has moved on by it */
 #define ARBITER_FINISHED 5  /* arbiter_bid: the task has no action left; don't ask for it before arbiter_again */
 #define ARBITER_BUSY 6      /* arbiter_bid: the task waits and asks again later; value: the device that is in use */
-#define ARBITER_HELD 7      /* arbiter_bid: the task waits and asks again later, or tasks would wait for ever; value: the unsafe state's rank */
+#define ARBITER_HELD 7      /* arbiter_bid: the task waits and asks again later, or tasks would wait for ever; value: the unsafe next state's rank */
 #define ARBITER_RESTARTED 8 /* arbiter_again: every task is at its start again */
 
 /* The refusals of a set. The place is the faulty word's index, counted from 0, unless said otherwise.
@@ -123,37 +144,234 @@ ARBITER_ASSERT(place_of_grants, offsetof(arbiter_record, grants) == 8);
 ARBITER_ASSERT(size_of_length, sizeof(size_t) == 8);
 #undef ARBITER_ASSERT
 
+/* What stands before every call, so that a compiler complains where its answer isn't used: a bid that nobody looks at is no grant. */
+#if defined(__cplusplus) && __cplusplus >= 201703L
+#define ARBITER_MUST_USE [[nodiscard]]
+#elif !defined(__cplusplus) && defined(__STDC_VERSION__) && __STDC_VERSION__ >= 202311L
+#define ARBITER_MUST_USE [[nodiscard]]
+#elif defined(__GNUC__)
+#define ARBITER_MUST_USE __attribute__((warn_unused_result))
+#else
+#define ARBITER_MUST_USE
+#endif
+
+/* ARBITER_LEND(pointer) is the pointer itself, with its own type; or, if it is NULL, an address to lend for a slice of length 0: non-null and
+ * aligned, as the calls ask. An empty std::vector or span may give NULL. It is an address in the first page, where nothing lies, so that a NULL
+ * lent by mistake with another length still ends in a fault. The argument is evaluated once. C needs __typeof__ for it, which GCC, Clang and
+ * their kin have in every mode. */
+#ifdef __cplusplus
+extern "C++" {
+template <typename Element> inline Element *arbiter_lend(Element *pointer) {
+    return pointer ? pointer : reinterpret_cast<Element *>(sizeof(uint64_t));
+}
+}
+#define ARBITER_LEND(pointer) arbiter_lend(pointer)
+#else
+static inline void *arbiter_lend(const void *pointer) { return (void *)(pointer ? (uintptr_t)pointer : sizeof(uint64_t)); }
+#define ARBITER_LEND(pointer) ((__typeof__(((void)0, (pointer))))arbiter_lend(pointer))
+#endif
+
 #ifdef __cplusplus
 extern "C" {
 #endif
 
-/* Reads a set. ACCEPTED with its number of states, or REFUSED 1 to 12. */
-arbiter_answer arbiter_read(const uint32_t *set, size_t set_len);
+/* The library's own version; see ARBITER_VERSION. */
+ARBITER_MUST_USE uint32_t arbiter_version(void);
+
+/* Reads a set. ACCEPTED with its number of states, or REFUSED 1 to 12.
+ * A set that may be empty: ARBITER_LEND(set). */
+ARBITER_MUST_USE arbiter_answer arbiter_read(const uint32_t *set, size_t set_len);
 
 /* Analyses a set. PLANNED with the number of plan words, or REFUSED 1 to 14.
  * Accepted: map[0] to map[states - 1] and the plan's words are written; what lies beyond stays as it was.
- * 1 to 13 leave both slices untouched; 14 leaves the finished map, and zeros in the whole plan slice. */
-arbiter_answer arbiter_analyse(const uint32_t *set, size_t set_len, uint8_t *map, size_t map_len, uint32_t *plan, size_t plan_len);
+ * 1 to 13 leave both slices untouched; 14 leaves the finished map, and zeros in the whole plan slice.
+ * Fill the map slice with ARBITER_NOT_ANALYSED before. A host that wants no plan lends 0 words for it and goes on at 14.
+ * Slices that may be empty: ARBITER_LEND(set), ARBITER_LEND(map), ARBITER_LEND(plan). */
+ARBITER_MUST_USE arbiter_answer arbiter_analyse(const uint32_t *set, size_t set_len, uint8_t *map, size_t map_len, uint32_t *plan,
+                                                size_t plan_len);
 
 /* A record at the start of every task, with no grants: all zeros. */
-arbiter_record arbiter_fresh(void);
+ARBITER_MUST_USE arbiter_record arbiter_fresh(void);
 
 /* May this task make its next action? GRANTED (the record then counts it as made), FINISHED, BUSY with the device, HELD with the next
- * state's rank, or REFUSED 1 to 13, 16, 17 or 18. Only GRANTED changes the record. */
-arbiter_answer arbiter_bid(arbiter_record *record, const uint32_t *set, size_t set_len, const uint8_t *map, size_t map_len, size_t task);
+ * state's rank, or REFUSED 1 to 13, 16, 17 or 18. Only GRANTED changes the record.
+ * Slices that may be empty: ARBITER_LEND(set), ARBITER_LEND(map). */
+ARBITER_MUST_USE arbiter_answer arbiter_bid(arbiter_record *record, const uint32_t *set, size_t set_len, const uint8_t *map, size_t map_len,
+                                            size_t task);
 
-/* Starts every task anew once all are finished; the grant number stays. RESTARTED, or REFUSED 1 to 12, 16 or 19, which changes nothing. */
-arbiter_answer arbiter_again(arbiter_record *record, const uint32_t *set, size_t set_len);
+/* Starts every task anew once all are finished; the grant number stays. RESTARTED, or REFUSED 1 to 12, 16 or 19, which changes nothing.
+ * A set that may be empty: ARBITER_LEND(set). */
+ARBITER_MUST_USE arbiter_answer arbiter_again(arbiter_record *record, const uint32_t *set, size_t set_len);
 
 /* The steps from the record's state to the end, one byte a step: always the lowest task that can go on. ROUTED with their number, or
  * REFUSED 1 to 13, 16, 18, 20 or 21. A route slice of set_len bytes is always long enough. The bytes beyond the route stay as they were;
- * a refusal fills the whole slice with ARBITER_NO_STEP. */
-arbiter_answer arbiter_route(arbiter_record record, const uint32_t *set, size_t set_len, const uint8_t *map, size_t map_len, uint8_t *route,
-                             size_t route_len);
+ * a refusal fills the whole slice with ARBITER_NO_STEP.
+ * Slices that may be empty: ARBITER_LEND(set), ARBITER_LEND(map), ARBITER_LEND(route). */
+ARBITER_MUST_USE arbiter_answer arbiter_route(arbiter_record record, const uint32_t *set, size_t set_len, const uint8_t *map, size_t map_len,
+                                              uint8_t *route, size_t route_len);
 
 #ifdef __cplusplus
 }
 #endif
+
+/* Conveniences. Tested with the calls (hosts/c/helpers_test.c), not proved, and not part of the archive.
+ *
+ * They use no heap and nothing of the C library, change only what is said, and read nothing beyond the lengths that they are given, whatever
+ * stands there. What they answer has its meaning for a set that arbiter_read accepted, and a record of its service; for others it is just some
+ * number, and nothing worse. NULL with length 0 is allowed here. */
+
+/* A word's kind, and its field. */
+static inline uint32_t arbiter_word_kind(uint32_t word) { return word / ARBITER_FIELDS; }
+static inline uint32_t arbiter_word_field(uint32_t word) { return word % ARBITER_FIELDS; }
+
+/* 1 for a CLAIM or a RELEASE, 0 for any other word. */
+static inline int arbiter_is_action(uint32_t word) {
+    return arbiter_word_kind(word) == ARBITER_CLAIM || arbiter_word_kind(word) == ARBITER_RELEASE;
+}
+
+/* How many of these words are of this kind. */
+static inline size_t arbiter_count(const uint32_t *words, size_t len, uint32_t kind) {
+    size_t found = 0;
+    for (size_t i = 0; i < len; i++) {
+        if (arbiter_word_kind(words[i]) == kind) found++;
+    }
+    return found;
+}
+
+/* How many tasks the set has, never over 8. */
+static inline size_t arbiter_task_count(const uint32_t *set, size_t set_len) {
+    size_t found = arbiter_count(set, set_len, ARBITER_TASK);
+    return found < ARBITER_MAX_TASKS ? found : ARBITER_MAX_TASKS;
+}
+
+/* How many devices the set has, never over 16. The word of device d is set[d], its field the capacity. */
+static inline size_t arbiter_device_count(const uint32_t *set, size_t set_len) {
+    size_t found = arbiter_count(set, set_len, ARBITER_DEVICE);
+    return found < ARBITER_MAX_DEVICES ? found : ARBITER_MAX_DEVICES;
+}
+
+/* The index of the task's first action; its actions stand one after the other. set_len if there is no such task. */
+static inline size_t arbiter_actions_at(const uint32_t *set, size_t set_len, size_t task) {
+    for (size_t i = 0; i < set_len; i++) {
+        if (arbiter_word_kind(set[i]) == ARBITER_TASK && task-- == 0) return i + 1;
+    }
+    return set_len;
+}
+
+/* How many actions the task has, which is its last position; 0 if there is no such task. */
+static inline size_t arbiter_action_count(const uint32_t *set, size_t set_len, size_t task) {
+    size_t first = arbiter_actions_at(set, set_len, task);
+    size_t end = first;
+    while (end < set_len && arbiter_is_action(set[end])) end++;
+    return end - first;
+}
+
+/* The word of the task's action number p, counted from 1: the one that takes it from position p - 1 to p. 0, which is no word, if it has none. */
+static inline uint32_t arbiter_action(const uint32_t *set, size_t set_len, size_t task, size_t p) {
+    if (p == 0 || p > arbiter_action_count(set, set_len, task)) return 0;
+    return set[arbiter_actions_at(set, set_len, task) + p - 1];
+}
+
+/* How many actions the task has done in the record's state: its position; 0 for a number that is no task's. */
+static inline size_t arbiter_done(const arbiter_record *record, size_t task) {
+    return task < ARBITER_MAX_TASKS ? record->positions[task] : 0;
+}
+
+/* What the task was granted last: right after GRANTED, the CLAIM or RELEASE to make now, with its device as the field. 0 at the task's start. */
+static inline uint32_t arbiter_last_action(const arbiter_record *record, const uint32_t *set, size_t set_len, size_t task) {
+    return arbiter_action(set, set_len, task, arbiter_done(record, task));
+}
+
+/* What the task's next bid asks for: a CLAIM or RELEASE, with its device as the field. 0 if the task is finished. */
+static inline uint32_t arbiter_next_action(const arbiter_record *record, const uint32_t *set, size_t set_len, size_t task) {
+    return arbiter_action(set, set_len, task, arbiter_done(record, task) + 1);
+}
+
+/* 1 if the task holds the device in the record's state, 0 if not. */
+static inline int arbiter_holds(const arbiter_record *record, const uint32_t *set, size_t set_len, size_t task, size_t device) {
+    int held = 0;
+    size_t first = arbiter_actions_at(set, set_len, task);
+    size_t actions = arbiter_action_count(set, set_len, task);
+    for (size_t i = 0; i < actions && i < arbiter_done(record, task); i++) {
+        uint32_t action = set[first + i];
+        if (arbiter_word_field(action) == device) held = arbiter_word_kind(action) == ARBITER_CLAIM;
+    }
+    return held;
+}
+
+/* How many tasks hold the device in the record's state. */
+static inline size_t arbiter_holder_count(const arbiter_record *record, const uint32_t *set, size_t set_len, size_t device) {
+    size_t holders = 0;
+    for (size_t task = 0; task < ARBITER_MAX_TASKS; task++) {
+        if (arbiter_holds(record, set, set_len, task, device)) holders++;
+    }
+    return holders;
+}
+
+/* The rank of the state with these positions. */
+static inline uint64_t arbiter_rank(const uint32_t *set, size_t set_len, const uint8_t positions[ARBITER_MAX_TASKS]) {
+    uint64_t rank = 0;
+    size_t tasks = arbiter_task_count(set, set_len);
+    for (size_t task = 0; task < tasks; task++) rank = rank * (arbiter_action_count(set, set_len, task) + 1) + positions[task];
+    return rank;
+}
+
+/* Writes the positions of the state of this rank, 0 for absent tasks. 1; or 0 if the set has no such state, whose positions then mean nothing. */
+static inline int arbiter_positions(const uint32_t *set, size_t set_len, uint64_t rank, uint8_t positions[ARBITER_MAX_TASKS]) {
+    size_t tasks = arbiter_task_count(set, set_len);
+    for (size_t task = tasks; task < ARBITER_MAX_TASKS; task++) positions[task] = 0;
+    for (size_t task = tasks; task-- > 0;) {
+        uint64_t choices = arbiter_action_count(set, set_len, task) + 1;
+        positions[task] = (rank % choices) & 0xFF;
+        rank /= choices;
+    }
+    return rank == 0;
+}
+
+/* A box of a plan: the states in which every task's position is between its low and its high, both included. */
+typedef struct {
+    uint32_t kind;   /* ARBITER_FORBIDDEN_BOX or ARBITER_UNSAFE_BOX */
+    uint32_t device; /* a forbidden box's device; 0 for an unsafe one */
+    size_t tasks;    /* how many sides it has: one for each task of the set, fewer only if the plan is damaged */
+    uint8_t low[ARBITER_MAX_TASKS];
+    uint8_t high[ARBITER_MAX_TASKS];
+} arbiter_box;
+
+/* Writes the box that starts at plan[*at], moves *at behind it and gives 1; gives 0 and changes nothing where no box starts, so after the last.
+ * For all boxes: size_t at = 0; while (arbiter_next_box(plan, plan_len, &at, &box)) .. Then plan[at] is the first DEAD_STATE, or END. */
+static inline int arbiter_next_box(const uint32_t *plan, size_t plan_len, size_t *at, arbiter_box *box) {
+    if (*at >= plan_len) return 0;
+    uint32_t kind = arbiter_word_kind(plan[*at]);
+    if (kind != ARBITER_FORBIDDEN_BOX && kind != ARBITER_UNSAFE_BOX) return 0;
+    box->kind = kind;
+    box->device = arbiter_word_field(plan[*at]);
+    box->tasks = 0;
+    for (*at += 1; *at < plan_len && box->tasks < ARBITER_MAX_TASKS; *at += 1) {
+        uint32_t side = plan[*at];
+        if (arbiter_word_kind(side) != ARBITER_SIDE || arbiter_word_field(side) >> 16 != box->tasks) break;
+        box->low[box->tasks] = (side >> 8) & 0xFF;
+        box->high[box->tasks] = side & 0xFF;
+        box->tasks++;
+    }
+    for (size_t task = box->tasks; task < ARBITER_MAX_TASKS; task++) box->low[task] = box->high[task] = 0;
+    return 1;
+}
+
+/* The name of an answer's kind, for a log. */
+static inline const char *arbiter_kind_text(uint32_t kind) {
+    switch (kind) {
+    case ARBITER_REFUSED: return "refused";
+    case ARBITER_ACCEPTED: return "accepted";
+    case ARBITER_PLANNED: return "planned";
+    case ARBITER_ROUTED: return "routed";
+    case ARBITER_GRANTED: return "granted";
+    case ARBITER_FINISHED: return "finished";
+    case ARBITER_BUSY: return "busy";
+    case ARBITER_HELD: return "held";
+    case ARBITER_RESTARTED: return "restarted";
+    default: return "no answer has this kind";
+    }
+}
 
 /* What a refusal means, as a sentence for the author of the set or the reader of a log. */
 static inline const char *arbiter_refusal_text(uint32_t refusal) {

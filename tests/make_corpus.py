@@ -17,7 +17,7 @@ into the two slices, then the calls are made in order, accepted or not, on what 
     3 RECORD positions, positions, grants  the record is replaced; tasks 0 to 3, then 4 to 7, a byte each, lowest first
     4 POKE rank, byte                  one byte of the map is replaced
     5 LEND length                      later bids and routes are lent only that much of the map slice
-    6 BID_IN_PLACE task                a bid over the record
+    6 BID_IN_PLACE task                a bid over a record that is lent to it
     7 ROUNDS times, tasks, count       so many times the bids of the first `count` hexadecimal digits of `tasks`, the lowest digit first
 
 Output, a line each:

@@ -1,12 +1,14 @@
 /* serve SETFILE: reads a set (four bytes a word, lowest first), analyses it, serves rounds of bids until every task is finished, starts
  * anew and prints the route from the start. The same program in Rust is rust/examples/serve.rs; both print the same.
  *
- * Exit status: 0; 1 if a call was refused, with the refusal as the last line; 2 if the file can't be read or memory is out. */
+ * Exit status: 0; 1 if a call was refused, with the refusal as the last line; 2 if the library isn't of the header's version, the file can't be
+ * read or memory is out. */
 #include "arbiter.h"
 
 #include <stdbool.h>
 #include <stdio.h>
 #include <stdlib.h>
+#include <string.h>
 
 static void stop(const char *why) {
     fprintf(stderr, "serve: %s\n", why);
@@ -48,13 +50,12 @@ static size_t words_in(const char *path, uint32_t set[ARBITER_MAX_WORDS]) {
     return length / 4;
 }
 
-/* How many of these words are of this kind. */
-static size_t count(const uint32_t *words, size_t len, uint32_t kind) {
-    size_t found = 0;
-    for (size_t i = 0; i < len; i++) {
-        if (words[i] / ARBITER_FIELDS == kind) found++;
-    }
-    return found;
+/* The room for a map. A byte of 0 is an open state, so it is filled with a byte that no map has: were it used before an analysis wrote it,
+ * the first bid would be refused with 16; on zeros everything would be granted. */
+static uint8_t *map_room(size_t len) {
+    uint8_t *map = room(len, 1);
+    memset(map, ARBITER_NOT_ANALYSED, len);
+    return map;
 }
 
 /* The plan, in a slice that is doubled while it is too short; its length is stored in *len. It starts short, so that even small sets show the
@@ -88,18 +89,19 @@ static bool finished(arbiter_record *record, const uint32_t *set, size_t set_len
 
 int main(int arguments, char **argument) {
     if (arguments != 2) stop("usage: serve SETFILE");
+    if (arbiter_version() != ARBITER_VERSION) stop("libarbiter.a isn't of the version of arbiter.h");
 
     static uint32_t set[ARBITER_MAX_WORDS];
     size_t set_len = words_in(argument[1], set);
     size_t map_len = value_of(arbiter_read(set, set_len));
-    size_t tasks = count(set, set_len, ARBITER_TASK);
-    printf("words: %zu, devices: %zu, tasks: %zu, states: %zu\n", set_len, count(set, set_len, ARBITER_DEVICE), tasks, map_len);
+    size_t tasks = arbiter_task_count(set, set_len);
+    printf("words: %zu, devices: %zu, tasks: %zu, states: %zu\n", set_len, arbiter_device_count(set, set_len), tasks, map_len);
 
-    uint8_t *map = room(map_len, 1);
+    uint8_t *map = map_room(map_len);
     size_t plan_len;
     uint32_t *plan = plan_of(set, set_len, map, map_len, &plan_len);
-    printf("forbidden boxes: %zu, unsafe boxes: %zu, dead states: %zu\n", count(plan, plan_len, ARBITER_FORBIDDEN_BOX),
-           count(plan, plan_len, ARBITER_UNSAFE_BOX), count(plan, plan_len, ARBITER_DEAD_STATE));
+    printf("forbidden boxes: %zu, unsafe boxes: %zu, dead states: %zu\n", arbiter_count(plan, plan_len, ARBITER_FORBIDDEN_BOX),
+           arbiter_count(plan, plan_len, ARBITER_UNSAFE_BOX), arbiter_count(plan, plan_len, ARBITER_DEAD_STATE));
 
     arbiter_record record = arbiter_fresh();
     size_t done = 0;

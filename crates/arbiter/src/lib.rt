@@ -8,11 +8,19 @@ ghost use Rattle.model.specs.Analysis.{analyse};
 ghost use Rattle.model.specs.Record.{fresh};
 ghost use Rattle.model.specs.Broker.{bid, again};
 ghost use Rattle.model.specs.Route.{route};
-ghost use Rattle.model.specs.Told.{tellReading, tellBid, tellAgain};
+ghost use Rattle.model.specs.Told.{VERSION, tellReading, tellBid, tellAgain};
 ghost use Rattle.records.specs.Says.{recordOf};
 ghost use Rattle.arbiter.specs.Told.{structOf, ToldAnalysis, ToldServed, ToldRoute};
 use answers::Answer;
 use records::Record;
+
+// The library's own version, for a host to compare with that of the header or package it was built with: structs and numbers may differ between versions.
+#[no_mangle]
+pub extern "C" fn arbiter_version() -> u32
+    ensures { λ r. ⌜ r ≡ VERSION ⌝ }
+{
+    model::VERSION
+}
 
 // Reads a set: accepted with its grid, so that a host knows how long its map will be, or a refusal of the set.
 #[no_mangle]

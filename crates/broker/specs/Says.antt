@@ -1,4 +1,4 @@
--- What the code's answers say in document 01's terms.
+-- What the code's answers say in the terms of SCOPE.md, "Broker".
 use Rattle.model.specs.Answer.{Answer, given, refused}
 use Rattle.model.specs.Broker.{Bid, granted, finished, busy, held, Again, restarted, Served}
 use Rattle.records.specs.Says.{recordOf}

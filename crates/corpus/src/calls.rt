@@ -2,13 +2,15 @@
 ghost use Prim.Native.Nat.{_+_, _<_};
 ghost use lib.ListN.{length};
 use crate::input::CALL_WORDS;
+use crate::lent;
 use crate::rounds::show_rounds;
 use crate::text;
+use broker::ServedBid;
 use listing::least;
 use records::Record;
 use route::RouteAnswer;
 
-// The kinds of calls; any other is a bid.
+// The kinds of calls; any other is a bid by value.
 const AGAIN: u32 = 1;
 
 const ROUTE: u32 = 2;
@@ -18,6 +20,8 @@ const RECORD: u32 = 3;
 const POKE: u32 = 4;
 
 const LEND: u32 = 5;
+
+const BID_IN_PLACE: u32 = 6;
 
 const ROUNDS: u32 = 7;
 
@@ -139,14 +143,12 @@ fn show_served(words: &[u32], map: &[u8], rec: Record, call: Call) -> Record {
     match kind {
         ROUNDS => show_rounds(words, map, rec, call.a, call.b, call.c),
         AGAIN => show_again(words, rec),
-        _ => show_bid(words, map, rec, call.a as usize),
+        BID_IN_PLACE => show_bid(lent::bid(words, map, rec, call.a as usize)),
+        _ => show_bid(broker::bid(words, map, rec, call.a as usize)),
     }
 }
 
-// A bid over the record is made by value too, for the borrow checker doesn't cover a local record that is lent: the contracts of `broker::bid` and
-// `broker::bid_in_place` both say the model's bid, so their answers and the records that they leave are equal.
-fn show_bid(words: &[u32], map: &[u8], rec: Record, task: usize) -> Record {
-    let served = broker::bid(words, map, rec, task);
+fn show_bid(served: ServedBid) -> Record {
     let answer = served.answer;
     let after = served.after;
     console::bid(answer);

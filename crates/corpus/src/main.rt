@@ -2,6 +2,7 @@
 mod calls;
 mod cases;
 mod input;
+mod lent;
 mod rounds;
 mod sums;
 mod text;

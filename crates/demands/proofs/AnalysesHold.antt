@@ -1,4 +1,4 @@
--- The analysis answers and leaves what document 01 says, case by case.
+-- The analysis answers and leaves what SCOPE.md, "Analysis", says, case by case.
 use Prim.Native.Nat.{ℕ, _≤_}
 use mathlib.Core.Path.{_≡_, ap, _∙_}
 use mathlib.Core.List.{List, map}

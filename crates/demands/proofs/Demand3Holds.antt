@@ -63,5 +63,5 @@ demand3 = record {
   accepted = λ words map plan n e.
       let r = accepted-made words map plan n e in
       (of-map words map _ (r .0), rw (plan-left words map plan n e) (of-plan words map _ (r .0)));
-  plan-too-short = λ words map plan place e. of-map words map _ (short-made words map plan place e);
+  plan-too-short = λ words map plan place e. let m = short-made words map plan place e in (of-map words map _ m, of-plan words map _ m);
 }

@@ -1,4 +1,4 @@
--- What a task holds, its holds, the holders of a device and the permitted states are as document 01 says.
+-- What a task holds, its holds, the holders of a device and the permitted states are as SCOPE.md, "States and holds", says.
 use Prim.Native.Nat.{ℕ, zero, suc, _+_}
 use native.Mathlib.Omega.{arith}
 use mathlib.Core.Path.{_≡_, refl}

@@ -1,4 +1,4 @@
--- A set is well formed exactly if each sentence of "The set" holds of it.
+-- A set is well formed exactly if each sentence of SCOPE.md, "Sets", holds of it.
 use Prim.Native.Nat.{ℕ, zero, suc, _*_, _<_, _≤_}
 use native.Mathlib.Omega.{arith}
 use mathlib.Core.Path.{_≡_, refl, sym, ap, _∙_}

@@ -1,4 +1,4 @@
--- The words of a set and of a plan are those of document 01's layouts.
+-- The words of a set and of a plan are those of the layouts in SCOPE.md, "Sets" and "Plan".
 use Prim.Native.Nat.{ℕ, suc, _+_}
 use native.Mathlib.Omega.{arith}
 use mathlib.Core.Path.{_≡_, refl, ap₂}

@@ -32,4 +32,6 @@ pub mod CallsHold
 pub mod ServiceHolds
 pub mod RouteDemandHolds
 pub mod RefusalsHold
+pub mod PrintedNumbers
+pub mod PrinterHolds
 pub mod HostsHold

@@ -1,4 +1,4 @@
--- Open, unsafe and dead states are what document 01 says, and so is each byte of a slice that carries the map.
+-- Open, unsafe and dead states are what SCOPE.md, "Map", says, and so is each byte of a slice that carries the map.
 use Prim.Native.Nat.{ℕ, zero, suc, _+_, _<_, _≤_}
 use native.Mathlib.Omega.{arith}
 use mathlib.Core.Path.{_≡_, refl}

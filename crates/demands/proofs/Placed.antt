@@ -1,4 +1,4 @@
--- A record whose positions are in place, as document 01 says it, and the state that it gives.
+-- A record whose positions are in place, as SCOPE.md, "Refusals", says it, and the state that it gives.
 use Prim.Native.Nat.{ℕ, _≤_}
 use native.Mathlib.Omega.{arith}
 use mathlib.Core.Path.{_≡_, sym, _∙_}

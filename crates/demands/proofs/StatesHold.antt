@@ -1,4 +1,4 @@
--- States, ranks, steps and the end are what document 01 says.
+-- States, ranks, steps and the end are what SCOPE.md, "States and holds", says.
 use Prim.Native.Nat.{ℕ, zero, suc, _+_, _*_, _<_}
 use native.Mathlib.Omega.{arith}
 use native.Mathlib.Nat.{mul-le-mul-right, suc-mul}

@@ -1,4 +1,4 @@
--- The refusals 1 to 12 of all words: the reader gives each exactly where document 01 says.
+-- The refusals 1 to 12 of all words: the reader gives each exactly where SCOPE.md, "Refusals", says.
 use Prim.Native.Nat.{ℕ, zero, suc, _-_, _<_, _≤_}
 use native.Mathlib.Omega.{arith}
 use native.Mathlib.Nat.{eq-or-lt-of-le, le-of-suc-le-suc}

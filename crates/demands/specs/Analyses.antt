@@ -1,4 +1,4 @@
--- Document 01, the analysis ("Dead states, plan, route, print"; refusals 13 and 14): its answer and both slices afterwards, for words that read as a set.
+-- SCOPE.md, "Plan" and "Analysis" (refusals 13 and 14): the words of a plan; the analysis' answer and both slices afterwards, for words that read as a set.
 use Prim.Native.Nat.{ℕ, suc, _+_, _*_, _<_, _≤_}
 use mathlib.Core.Path.{_≡_}
 use mathlib.Core.List.{List, [], _∷_, _++_, map, flatten}

@@ -1,4 +1,4 @@
--- Document 01, "The broker" and "Dead states, plan, route, print": bid, again and route on any map and record. For each case of the answer when it comes, with the record or
+-- SCOPE.md, "Broker" and "Route": bid, again and route on any map and record. For each case of the answer when it comes, with the record or
 -- slice afterwards; the cases of a call are all there are. Then lists of calls.
 use Prim.Native.Nat.{ℕ, _+_, _%_, _<_, _≤_}
 use mathlib.Core.Path.{_≡_}

@@ -12,7 +12,7 @@ use Rattle.model.specs.Read.{read, setIn}
 use Rattle.model.specs.State.{State, sum, InGrid}
 use Rattle.model.specs.Hold.{permitted}
 use Rattle.model.specs.Box.{covered}
-use Rattle.model.specs.Plan.{Plan, planFrom}
+use Rattle.model.specs.Plan.{Plan, planOf, planFrom}
 use Rattle.model.specs.Analysis.{analyse}
 use Rattle.model.specs.Record.{fresh, stateIn}
 use Rattle.model.specs.Broker.{Call, afterCalls, grantCount, IsRound, roundCalls}
@@ -49,4 +49,6 @@ pub record Demand3 : Type 0 where
   pub answers : (words : List ℕ) (s : Set) → read words ≡ given s → OfAnalysis words s
   pub accepted : (words map plan : List ℕ) (n : ℕ) → analyse words map plan .answer ≡ given n
       → OfMap words (analyse words map plan .map) × OfPlan words (analyse words map plan .map) (planFrom (analyse words map plan .plan))
-  pub plan-too-short : (words map plan : List ℕ) (place : ℕ) → analyse words map plan .answer ≡ refused 14 place → OfMap words (analyse words map plan .map)
+  -- where the plan has no room, the map is the same, and what is said of the plan holds of the set's, which is not written
+  pub plan-too-short : (words map plan : List ℕ) (place : ℕ) → analyse words map plan .answer ≡ refused 14 place
+      → OfMap words (analyse words map plan .map) × OfPlan words (analyse words map plan .map) (planOf (setIn words))

@@ -1,4 +1,4 @@
--- The desk examples a to l of document 01, on the definitions alone.
+-- The desk examples a to l (SCOPE.md, "Desk examples"), on the definitions alone.
 use Prim.Native.Nat.{ℕ}
 use mathlib.Core.Path.{_≡_}
 use mathlib.Core.List.{List, [], _∷_, map}
@@ -18,9 +18,9 @@ use Rattle.demands.specs.Terms.{_to_}
 abbrev pub count : Set → ℕ → ℕ
 count s b = length (ranksFrom b 0 (mapOf s))
 
--- an analysis with a map slice of g zeros and a plan slice of n zeros
+-- an analysis with a map slice of g bytes that no analysis writes, and a plan slice of n zeros
 abbrev pub analysed : List ℕ → ℕ → ℕ → Analysed
-analysed words g n = analyse words (replicate g 0) (replicate n 0)
+analysed words g n = analyse words (replicate g 255) (replicate n 0)
 
 -- the answers to the bids of these tasks, each given the record as the last one left it
 unfoldable pub answers : List ℕ → List ℕ → Record → List ℕ → List (Answer Bid)
@@ -62,7 +62,7 @@ e = record {
   tasks = (claim 0 ∷ release 0 ∷ []) ∷ (claim 0 ∷ release 0 ∷ []) ∷ (claim 0 ∷ release 0 ∷ []) ∷ [];
 }
 
--- document 01, "Desk examples", a to l
+-- SCOPE.md, "Desk examples", a to l
 pub record Examples : Type 0 where
   -- a's plan, word for word
   pub a-answer : analysed a 25 11 .answer ≡ given 11

@@ -1,4 +1,4 @@
--- Document 01, "Forbidden boxes" (document 004, 5.1): which boxes a set has, and in which order; the table of task sets.
+-- SCOPE.md, "Forbidden boxes", after the published rule: which boxes a set has, and in which order; the table of task sets.
 use Prim.Native.Nat.{ℕ, zero, suc, _/_, _%_, _<_, _≤_}
 use mathlib.Core.Path.{_≡_}
 use mathlib.Core.Logic.{_↔_, _⊎_}

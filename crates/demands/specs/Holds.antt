@@ -1,4 +1,4 @@
--- Document 01, "States and holds": what a task holds, the holders of a device, and the permitted states.
+-- SCOPE.md, "States and holds": what a task holds, the holders of a device, and the permitted states.
 use Prim.Native.Nat.{ℕ, _-_, _<_, _≤_}
 use mathlib.Core.Path.{_≡_}
 use mathlib.Core.Logic.{_↔_}

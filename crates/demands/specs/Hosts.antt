@@ -1,4 +1,4 @@
--- What hosts are told, in the numbers that include/arbiter.h names: no answer is lost in them.
+-- What hosts are told, in the numbers that include/arbiter.h names: no answer is lost in them; of a set that is read they tell the grid.
 use Prim.Native.Nat.{ℕ}
 use mathlib.Core.Path.{_≡_}
 use Rattle.model.specs.Answer.{Answer, given, refused}
@@ -28,7 +28,7 @@ pub record Hosts : Type 0 where
   -- a set that is read is told with its grid, one that is refused as every refusal
   pub of-accepted : (s : Set) → tellReading (given s) ≡ numbers 1 0 (size (lengthsOf s))
   pub of-faulty : (n p : ℕ) → tellReading (refused n p) ≡ numbers 0 n p
-  -- a host hears every answer of a call as it was given, so no two of them are told alike
+  -- a host hears every answer of an analysis, a route, a bid and an again as it was given, so no two of them are told alike
   pub heard-told : ((a : Answer ℕ) → hearNumber (tellAnalysis a) ≡ a)
       × ((a : Answer ℕ) → hearNumber (tellRoute a) ≡ a)
       × ((a : Answer Bid) → hearBid (tellBid a) ≡ a)

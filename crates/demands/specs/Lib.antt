@@ -1,4 +1,4 @@
--- The statements: words that they share, the desk examples, the sections of document 01 in its order, and the demands over them.
+-- The statements: words that they share, the desk examples, the sections of docs/SCOPE.md in its order, and the demands over them.
 pub mod Terms
 pub mod Places
 pub mod Examples
@@ -18,4 +18,5 @@ pub mod Demand2
 pub mod Demand3
 pub mod RouteDemand
 pub mod Refusals
+pub mod Printer
 pub mod Hosts

@@ -1,4 +1,4 @@
--- Document 01, "The map": open, unsafe and dead states, and what each byte of the map says.
+-- SCOPE.md, "Map": open, unsafe and dead states, and what each byte of the map says.
 use Prim.Native.Nat.{ℕ, _<_, _≤_}
 use mathlib.Core.Path.{_≡_}
 use mathlib.Core.Logic.{_↔_}

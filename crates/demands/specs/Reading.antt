@@ -1,4 +1,4 @@
--- Document 01, "The set" and "Turned back, by place", 1 to 12: which sets are well formed, each refusal and each limit at its edge, and the order of the rows.
+-- SCOPE.md, "Sets" and "Refusals", 1 to 12: which sets are well formed, each refusal and each limit at its edge, and the order of the rows.
 use Prim.Native.Nat.{ℕ, _+_, _%_, _<_, _≤_}
 use mathlib.Core.Path.{_≡_}
 use mathlib.Core.Logic.{_↔_, _⊎_}
@@ -10,7 +10,7 @@ use Rattle.model.specs.Answer.{given, refused}
 use Rattle.model.specs.Read.{read}
 use Rattle.demands.specs.Terms.{times, StillHeld}
 
--- the sentences of "The set", each by itself
+-- the sentences of "Sets", each by itself
 pub record InLayout (s : Set) : Type 0 where
   -- at most 16 devices, of capacity 1 to 8
   pub devices : length (s .capacities) ≤ 16

@@ -1,4 +1,4 @@
--- Each call refuses with the numbers that document 01 lists for it and no others ("Turned back, by place", its last paragraph).
+-- Each call refuses with the numbers that SCOPE.md lists for it and no others ("Refusals", the order of each call).
 use Prim.Native.Nat.{ℕ}
 use mathlib.Core.List.{List, [], _∷_, _++_, List·Memᴰ}
 use Rattle.model.specs.Answer.{Answer, given, refused}

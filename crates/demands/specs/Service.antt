@@ -1,4 +1,4 @@
--- Document 01, "The broker", in service: the set's own map, and the record as the last call left it.
+-- SCOPE.md, "Broker", in service: the set's own map, and the record as the last call left it.
 use Prim.Native.Nat.{ℕ, _<_, _≤_}
 use mathlib.Core.Path.{_≡_}
 use mathlib.Core.Bool.{false}

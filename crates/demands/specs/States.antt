@@ -1,4 +1,4 @@
--- Document 01, "States and holds": the states of the grid, their ranks, steps and the end, over the action counts `ls`.
+-- SCOPE.md, "States and holds": the states of the grid, their ranks, steps and the end, over the action counts `ls`.
 use Prim.Native.Nat.{ℕ, _+_, _<_, _≤_}
 use mathlib.Core.Path.{_≡_}
 use mathlib.Core.Logic.{_↔_}

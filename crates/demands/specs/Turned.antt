@@ -1,4 +1,4 @@
--- Document 01, "Turned back, by place", 1 to 12, of all words: which word brings which number, said of the words alone.
+-- SCOPE.md, "Refusals", 1 to 12, of all words: which word brings which number, said of the words alone.
 use Prim.Native.Nat.{ℕ, _+_, _-_, _/_, _%_, _<_, _≤_}
 use mathlib.Core.Path.{_≡_}
 use mathlib.Core.Logic.{_⊎_}

@@ -1,4 +1,4 @@
--- Document 01, "Unsafe boxes": what a box holds, the blocker of a task, the box of a state, and the order in which the boxes are made.
+-- SCOPE.md, "Unsafe boxes": what a box holds, the blocker of a task, the box of a state, and the order in which the boxes are made.
 use Prim.Native.Nat.{ℕ, suc, _<_, _≤_}
 use mathlib.Core.Path.{_≡_}
 use mathlib.Core.Logic.{_↔_, _⊎_}

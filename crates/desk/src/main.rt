@@ -1,4 +1,4 @@
-// Calls of document 01's desk examples and refusals, made by a running program: one line a fact, held to the file `stdout`.
+// Calls of the desk examples and refusals (SCOPE.md, "Desk examples", "Refusals"), made by a running program: one line a fact, held to the file `stdout`.
 mod calls;
 mod lines;
 mod long;

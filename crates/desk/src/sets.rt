@@ -1,4 +1,4 @@
-// The sets of examples a and d to k, word by word as document 01 has them, and the analyses of those that no call is made on.
+// The sets of examples a and d to k, word by word as SCOPE.md, "Desk examples", has them, and the analyses of those that no call is made on.
 use crate::lines::UNTOUCHED;
 use crate::lines::analyse_line;
 use crate::lines::map_line;

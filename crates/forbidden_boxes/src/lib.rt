@@ -1,4 +1,4 @@
-// The forbidden boxes of a set, written to a plan in order (document 01, "Forbidden boxes").
+// The forbidden boxes of a set, written to a plan in order (SCOPE.md, "Forbidden boxes").
 mod choices;
 mod rows;
 mod sets;

@@ -1,3 +1,5 @@
 pub mod Front
+pub mod Runs
 pub mod Rows
+pub mod Digits
 pub mod Callers

@@ -1,13 +1,15 @@
--- A loop that stores the lines of words at the front of a slice, one line a turn.
+-- The lines of words: nine bytes each, one after the other.
 -- Assumes nothing.
-use mathlib.Core.Path.{_≡_, refl, sym, ap, ap₂, _∙_}
+use mathlib.Core.Path.{_≡_, refl, sym, ap, _∙_}
 use mathlib.Core.List.{List, [], _∷_, _++_, append-assoc}
-use Prim.Native.Nat.{ℕ, _+_, _*_, _<_}
+use Prim.Native.Nat.{ℕ, _+_, _*_, _<_, _≤_}
 use native.Mathlib.Numerals.{add-one}
 use native.Mathlib.Omega.{arith}
-use lib.ListN.{length, take, drop, getD, length-append}
-use lib.Seq.{length-take-le, take-suc, take-at, drop-append-add, drop-drop, paste}
-use Rattle.listing.specs.Lines.{hexLine, linesOf}
+use lib.ListN.{length, take, getD, length-append}
+use lib.Seq.{length-take-le, take-suc}
+use Rattle.model.specs.Slice.{write}
+use Rattle.model.specs.Printed.{hexLine, linesOf}
+use Rattle.model.proofs.Slices.{write-then}
 
 -- a line has nine bytes
 pub length-lines : (ws : List ℕ) → length (linesOf ws) ≡ length ws * 9
@@ -25,17 +27,12 @@ lines-suc : (ws : List ℕ) (k : ℕ) → k < length ws → linesOf (take (k + 1
 lines-suc ws k h =
     ap (λ (n : ℕ). linesOf (take n ws)) (add-one k) ∙ ap linesOf (take-suc ws k 0 h) ∙ lines-snoc (take k ws) (getD ws k 0)
 
--- a line pasted behind what stands at the front
-paste-behind : (front line d : List ℕ) (n : ℕ) → length front ≡ n → paste (front ++ drop n d) n line 9 ≡ front ++ take 9 line ++ drop (n + 9) d
-paste-behind front line d n e =
-    let after : drop (n + 9) (front ++ drop n d) ≡ drop (n + 9) d =
-    ap (λ (m : ℕ). drop (m + 9) (front ++ drop n d)) (sym e) ∙ drop-append-add front (drop n d) 9 ∙ drop-drop 9 n d in
-    ap₂ (λ (l m : List ℕ). l ++ take 9 line ++ m) (take-at front (drop n d) n e) after
-
--- a turn
-pub lines-turn : (ws d : List ℕ) (k : ℕ) → k < length ws
-    → paste (linesOf (take k ws) ++ drop (k * 9) d) (k * 9) (hexLine (getD ws k 0)) 9 ≡ linesOf (take (k + 1) ws) ++ drop ((k + 1) * 9) d
-lines-turn ws d k h =
-    let n : length (linesOf (take k ws)) ≡ k * 9 = length-lines (take k ws) ∙ ap (λ (m : ℕ). m * 9) (length-take-le k ws (omega arith)) in
-    let m : k * 9 + 9 ≡ (k + 1) * 9 = omega arith in
-    paste-behind (linesOf (take k ws)) (hexLine (getD ws k 0)) d (k * 9) n ∙ ap₂ (λ (l : List ℕ) (j : ℕ). l ++ drop j d) (sym (lines-suc ws k h)) m
+-- a turn: the next line put behind those that stand at the front
+pub lines-turn : (ws d : List ℕ) (k : ℕ) → k < length ws → k * 9 + 9 ≤ length d
+    → write (write d 0 (linesOf (take k ws))) (k * 9) (hexLine (getD ws k 0)) ≡ write d 0 (linesOf (take (k + 1) ws))
+lines-turn ws d k h room =
+    let front = linesOf (take k ws) in
+    let line = hexLine (getD ws k 0) in
+    let n : length front ≡ k * 9 = length-lines (take k ws) ∙ ap (λ (m : ℕ). m * 9) (length-take-le k ws (omega arith)) in
+    let at : k * 9 ≡ 0 + length front = omega arith in
+    ap (λ (i : ℕ). write (write d 0 front) i line) at ∙ write-then d 0 front line (omega arith) ∙ ap (write d 0) (sym (lines-suc ws k h))

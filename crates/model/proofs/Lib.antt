@@ -3,6 +3,7 @@
 -- tests, lists and answers
 pub mod Bools
 pub mod Lists
+pub mod Slices
 pub mod Each
 pub mod Answers
 -- states: steps, ranks and sums
@@ -55,3 +56,7 @@ pub mod BidAnswers
 pub mod BrokerRecord
 -- the route
 pub mod RouteStep
+-- the printer
+pub mod FileWords
+pub mod Decimal
+pub mod ToPrint

@@ -37,7 +37,7 @@ module _ (s : Set) (slice : List ℕ) where
       by-bool (ltb (length slice) (size (lengthsOf s))) (λ b. sym (refused-number (rw b at e))) (λ b. given-refused (rw b at e))
 
   -- a plan that fits is the set's
-  plan-given : (ws : List ℕ) → planFits s slice ≡ given ws → (ws ≡ planWords (planOf s)) × (length ws ≤ length slice)
+  pub plan-given : (ws : List ℕ) → planFits s slice ≡ given ws → (ws ≡ planWords (planOf s)) × (length ws ≤ length slice)
   unfolding planFits
   plan-given ws e =
       by-bool (ltb (length slice) (length (planWords (planOf s))))
@@ -45,7 +45,7 @@ module _ (s : Set) (slice : List ℕ) where
       (λ b. let q = given-value (rw b at e) in (sym q, rw (sym q) (ltb-false (length slice) (length (planWords (planOf s))) b)))
 
 module _ (words map : List ℕ) where
-  room-given : (s : Set) → withRoom words map ≡ given s → (read words ≡ given s) × (size (lengthsOf s) ≤ length map)
+  pub room-given : (s : Set) → withRoom words map ≡ given s → (read words ≡ given s) × (size (lengthsOf s) ≤ length map)
   room-given s e =
       let r = then-given _ (read words) s .0 e in
       let q = then-given _ (mapFits (r .0) map) s .0 (r .2) in

@@ -1,4 +1,4 @@
--- What a call answers (document 01, "Turned back, by place").
+-- What a call answers (SCOPE.md, "Refusals").
 use Prim.Native.Nat.{ℕ}
 
 -- a value, or a refusal's number and place

@@ -1,4 +1,4 @@
--- Boxes: an interval of positions for each task (document 01, "Forbidden boxes").
+-- Boxes: an interval of positions for each task (SCOPE.md, "Forbidden boxes").
 use Prim.Native.Nat.{ℕ}
 use mathlib.Core.Bool.{Bool, true, false, cond, _&&_, _||_}
 use mathlib.Core.List.{List, [], _∷_}

@@ -1,4 +1,4 @@
--- The broker (document 01, "The broker"; refusals 13 and 16 to 19): bid, again, and lists of calls.
+-- The broker (SCOPE.md, "Broker"; refusals 13 and 16 to 19): bid, again, and lists of calls.
 use Prim.Native.Nat.{ℕ, _+_, _%_, _<_}
 use mathlib.Core.Bool.{Bool, true, false, not, cond, _||_}
 use mathlib.Core.List.{List, [], _∷_, _++_, List·Memᴰ, map}
@@ -86,7 +86,7 @@ pub data Call : Type 0 where
   bids : ℕ → Call
   agains : Call
 
--- the record after a list of calls, each given the record as the last one left it, where `serve` gives the record after one call
+-- the record after a list of calls, each given the record as the last one left it, where `afterCall` gives the record after one
 unfoldable pub afterList : {R : Type 0} → (R → Call → R) → R → List Call → R
 afterList afterCall r [] = r
 afterList afterCall r (c ∷ cs) = afterList afterCall (afterCall r c) cs

@@ -1,4 +1,4 @@
--- The forbidden boxes of a set, in order (document 01, "Forbidden boxes"; document 004, 5.1).
+-- The forbidden boxes of a set, in order (SCOPE.md, "Forbidden boxes", after the published rule).
 use Prim.Native.Nat.{ℕ, zero, suc}
 use mathlib.Core.Bool.{Bool, true, false}
 use mathlib.Core.List.{List, [], _∷_, _++_, map}

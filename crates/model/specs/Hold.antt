@@ -1,4 +1,4 @@
--- Holds of a task, units held at a state, and permitted states (document 01, "States and holds").
+-- Holds of a task, units held at a state, and permitted states (SCOPE.md, "States and holds").
 use Prim.Native.Nat.{ℕ, suc, _+_, _<_}
 use mathlib.Core.Bool.{Bool, false, not, cond, _&&_, _||_}
 use mathlib.Core.List.{List, [], _∷_}

@@ -1,4 +1,4 @@
--- The layout of a set (document 01, "The set"): its words, and which sets are well formed.
+-- The layout of a set (SCOPE.md, "Sets"): its words, and which sets are well formed.
 use Prim.Native.Nat.{ℕ, _+_, _*_, _/_, _%_, _<_, _≤_}
 use mathlib.Core.Bool.{cond}
 use mathlib.Core.List.{List, [], _∷_, _++_, map}

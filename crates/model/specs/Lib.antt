@@ -1,4 +1,4 @@
--- The definitions, in the order of document 01.
+-- The definitions, in the order of docs/SCOPE.md, which the files cite as SCOPE.md.
 pub mod Below
 pub mod Slice
 pub mod Answer
@@ -19,4 +19,5 @@ pub mod Record
 pub mod Analysis
 pub mod Broker
 pub mod Route
+pub mod Printed
 pub mod Told

@@ -1,4 +1,4 @@
--- Reading a set (document 01, "Turned back, by place", numbers 1 to 12): the words' first fault, or the set that they declare.
+-- Reading a set (SCOPE.md, "Refusals", 1 to 12): the words' first fault, or the set that they declare.
 use Prim.Native.Nat.{ℕ, suc, _-_}
 use mathlib.Core.Bool.{Bool, true, false, not, cond, _&&_, _||_}
 use mathlib.Core.List.{List, [], _∷_, _++_}

@@ -1,4 +1,4 @@
--- The broker's record (document 01, "The broker"), and two tests that calls share: 13 for a lent map, 16 for a record's positions.
+-- The broker's record (SCOPE.md, "Broker"), and two tests that calls share: 13 for a lent map, 16 for a record's positions.
 use Prim.Native.Nat.{ℕ}
 use mathlib.Core.Bool.{Bool, cond}
 use mathlib.Core.List.{List}

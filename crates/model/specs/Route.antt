@@ -1,4 +1,4 @@
--- The route (document 01, "Dead states, plan, route, print"; refusals 13, 16, 18, 20, 21).
+-- The route (SCOPE.md, "Route"; refusals 13, 16, 18, 20, 21).
 use Prim.Native.Nat.{ℕ, zero, suc, _-_}
 use mathlib.Core.Bool.{not, cond, _&&_}
 use mathlib.Core.List.{List, [], _∷_}

@@ -1,4 +1,4 @@
--- The set (document 01, "The set"): devices with their capacities, tasks with their actions, and which sets are well formed.
+-- The set (SCOPE.md, "Sets"): devices with their capacities, tasks with their actions, and what a task keeps to.
 use Prim.Native.Nat.{ℕ, suc, _*_, _<_, _≤_}
 use mathlib.Core.Path.{_≡_}
 use mathlib.Core.Bool.{Bool, true, false, not, cond, _&&_}

@@ -1,4 +1,4 @@
--- The table of task sets (document 01, "Forbidden boxes"): the 255 non-empty sets of eight tasks, a byte each with bit i for task i.
+-- The table of task sets (SCOPE.md, "Forbidden boxes"): the 255 non-empty sets of eight tasks, a byte each with bit i for task i.
 use Prim.Native.Nat.{ℕ, zero, suc, _+_, _*_, _/_, _%_, _^_}
 use mathlib.Core.Bool.{cond, _&&_}
 use mathlib.Core.List.{List, [], _∷_, _++_, map}

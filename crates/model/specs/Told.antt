@@ -1,4 +1,4 @@
--- What hosts are told of the answers, in numbers (include/arbiter.h names the kinds for C).
+-- What hosts are told of the answers, in numbers (SCOPE.md, "Refusals"; include/arbiter.h names the kinds for C).
 use Prim.Native.Nat.{ℕ}
 use mathlib.Core.Bool.{cond}
 use lib.Dec.{eqb}
@@ -6,6 +6,10 @@ use Rattle.model.specs.Answer.{Answer, given, refused}
 use Rattle.model.specs.Set.{lengthsOf, size}
 use Rattle.model.specs.Read.{Reading}
 use Rattle.model.specs.Broker.{Bid, granted, finished, busy, held, Again, restarted}
+
+-- the version of the library, 1.0.0: major times 10,000, minor times 100, patch
+abbrev pub VERSION : ℕ
+VERSION = 10000
 
 -- a kind, a refusal's number and a value; 0 where there is none
 pub record Told : Type 0 where

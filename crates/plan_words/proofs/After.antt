@@ -4,18 +4,18 @@ use native.Mathlib.Omega.{arith}
 use mathlib.Core.Path.{_≡_, sym, _∙_}
 use mathlib.Core.List.{List, [], _∷_, _++_}
 use lib.ListN.{length, set, length-append}
-use lib.Seq.{sets-eq}
+use Rattle.model.proofs.Slices.{length-write, write-none, write-one, write-then}
 use Rattle.plan_words.specs.Words.{Wrote}
 use Rattle.plan_words.specs.declared.Placed.{Placed}
 use Rattle.plan_words.specs.declared.Placed.the-variants.{Next, Full}
-use Rattle.plan_words.proofs.Write.{length-write, write-none, write-then, wrote-next, wrote-full, read-next, read-full}
+use Rattle.plan_words.proofs.Write.{wrote-next, wrote-full, read-next, read-full}
 
 pub wrote-none : {p : List ℕ} {a : ℕ} → a ≤ length p → Wrote p a [] (Next a) p
 wrote-none {p} {a} h = wrote-next (omega arith) (omega arith) (sym (write-none p a h))
 
 -- one word, in its place
 pub wrote-one : {p : List ℕ} {a v : ℕ} → a < length p → Wrote p a (v ∷ []) (Next (a + 1)) (set p a v)
-wrote-one {p} {a} {v} h = wrote-next (omega arith) (omega arith) (sets-eq (v ∷ []) p a (omega arith))
+wrote-one {p} {a} {v} h = wrote-next (omega arith) (omega arith) (write-one p a v h)
 
 -- a run that does not fit, nor does what begins with it
 pub wrote-short : {p : List ℕ} {a : ℕ} (us vs : List ℕ) {q : List ℕ} → length us ≤ length vs → Wrote p a us Full q → Wrote p a vs Full q

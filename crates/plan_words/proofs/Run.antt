@@ -6,8 +6,10 @@ use native.Mathlib.Nat.{sub-zero}
 use native.Mathlib.Omega.{arith}
 use lib.ListN.{length, set, length-append}
 use Rattle.plan_words.specs.declared.Placed.{Placed}
-use Rattle.plan_words.specs.Words.{write, Wrote, upTo}
-use Rattle.plan_words.proofs.Write.{Fits, length-write, write-none, write-then, wrote-next, wrote-full, read-next, read-full}
+use Rattle.model.specs.Slice.{write}
+use Rattle.model.proofs.Slices.{length-write, write-none, write-then}
+use Rattle.plan_words.specs.Words.{Wrote, upTo}
+use Rattle.plan_words.proofs.Write.{Fits, wrote-next, wrote-full, read-next, read-full}
 use Rattle.plan_words.proofs.After.{wrote-one}
 
 module _ (f : ℕ → List ℕ) (p₀ : List ℕ) (at count : ℕ) where

@@ -3,14 +3,11 @@ use mathlib.Core.Path.{_≡_}
 use Prim.Native.Nat.{ℕ, zero, suc, _+_, _≤_}
 use mathlib.Core.Bool.{cond}
 use mathlib.Core.List.{List, [], _++_}
-use lib.ListN.{length, take, drop}
+use lib.ListN.{length}
 use lib.Dec.{leb}
+use Rattle.model.specs.Slice.{write}
 use Rattle.plan_words.specs.declared.Placed.{Placed}
 use Rattle.plan_words.specs.declared.Placed.the-variants.{Next, Full}
-
--- the plan p with words in the place of those from a on
-abbrev pub write : List ℕ → ℕ → List ℕ → List ℕ
-write p a ws = take a p ++ ws ++ drop (a + length ws) p
 
 -- q is what a call that was to write words at a made of p, and r its answer: where they fit they stand from a on, and the answer is the place after them;
 -- else the answer is Full, and of q only its length is known, which a lent slice keeps

@@ -1,61 +1,68 @@
-// Reads a set from standard input and prints its plan, a word a line, or the refusal (document 01, "Dead states, plan, route, print").
-use analysis::Outcome;
-use libc::STDIN_FILENO;
-use listing::Decoded;
+// The printer: reads a set from standard input and prints its plan, a word a line, or the refusal (SCOPE.md, "Printer"). It only reads, calls and writes: what is
+// printed of which bytes is `printing::print`'s contract. A read or a write that fails is told on standard error.
+mod arguments;
+mod input;
 
-// How many lines go to a write, and their bytes.
-const BLOCK_LINES: usize = 1024;
-
-const BLOCK: usize = BLOCK_LINES * listing::LINE;
-
-// The lent slices: a byte for each state of the largest grid, and the most words of a plan that is printed.
-const MAP: usize = model::MAX_GRID as usize;
-
-const PLAN: usize = 16384;
+use arguments::Asked;
+use libc::STDERR_FILENO;
+use libc::STDOUT_FILENO;
 
 // One byte more than a set's file may have is read, to tell that there are too many.
 const INPUT: usize = listing::MAX_BYTES + 1;
 
-// The words as lines, a block to a write.
-fn print_words(words: &[u32]) {
-    let mut from = 0;
-    while from < words.len() {
-        let mut block = [0u8; BLOCK];
-        let lines = listing::fill_lines(words, from, &mut block);
-        console::text(&block[..lines * listing::LINE]);
-        from += lines;
-    }
-}
+// The parts of a version's number.
+const MAJOR: u32 = 10000;
 
-fn print_refusal(number: u8, place: usize) {
-    console::refusal(number, place);
-    console::text(b"\n");
-}
-
-// The plan of a set, or the analysis' refusal.
-fn print_plan(words: &[u32]) {
-    let mut map = [0u8; MAP];
-    let mut plan = [0u32; PLAN];
-    match analysis::analyse(words, &mut map, &mut plan) {
-        Outcome::Planned { words: count } => {
-            print_words(&plan[..count]);
-        }
-        Outcome::Refused { number, place } => {
-            print_refusal(number, place);
-        }
-    }
-}
+const MINOR: u32 = 100;
 
 fn main() {
-    let mut bytes = [0u8; INPUT];
-    let n = io::read_full(STDIN_FILENO, &mut bytes);
-    let mut words = [0u32; model::MAX_WORDS];
-    match listing::decode(&bytes[..n], &mut words) {
-        Decoded::Words(count) => {
-            print_plan(&words[..count]);
-        }
-        Decoded::Refused { number, place } => {
-            print_refusal(number, place);
+    match arguments::read() {
+        Asked::Plan => print_set(),
+        Asked::Help => written(print_help()),
+        Asked::Version => written(print_version()),
+        Asked::Other => {
+            io::write_all(
+                STDERR_FILENO,
+                b"printer: it takes no file name, it reads standard input: printer < SETFILE\n",
+            );
         }
     }
+}
+
+fn print_set() {
+    let mut bytes = [0u8; INPUT];
+    let read = input::read_all(&mut bytes);
+    if read.failed {
+        os::fail(b"printer: can't read standard input");
+        return;
+    }
+    let count = read.count;
+    let mut text = [0u8; printing::TEXT];
+    let length = printing::print(&bytes[..count], &mut text);
+    written(io::write_all(STDOUT_FILENO, &text[..length]));
+}
+
+// Says it where something was not written.
+fn written(all: bool) {
+    if !all {
+        os::fail(b"printer: can't write standard output");
+    }
+}
+
+fn print_help() -> bool {
+    io::write_all(
+        STDOUT_FILENO,
+        b"usage: printer < SETFILE\n\nReads a set from standard input, four bytes a word, the lowest first, and prints its plan, a word of eight\nhexadecimal digits on a line, or one line 'refused N at P'.\n\n  --help      prints this\n  --version   prints the version\n\nA read or a write that fails is told on standard error. The exit status is 0 in every case: tools/plan.py\nruns the printer and ends with 0 for a plan, 1 for a refusal and 2 for a failure.\n",
+    )
+}
+
+fn print_version() -> bool {
+    io::write_all(STDOUT_FILENO, b"printer ")
+        && print_part(model::VERSION / MAJOR, b".")
+        && print_part(model::VERSION / MINOR % MINOR, b".")
+        && print_part(model::VERSION % MINOR, b"\n")
+}
+
+fn print_part(n: u32, after: &[u8]) -> bool {
+    io::print_decimal(STDOUT_FILENO, n as u64) && io::write_all(STDOUT_FILENO, after)
 }

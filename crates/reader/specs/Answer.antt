@@ -1,4 +1,4 @@
--- What the reader's code answers (document 01, "The set", and refusals 1 to 12): the model's reading of the words, as the code's types hold it.
+-- What the reader's code answers (SCOPE.md, "Sets", and "Refusals", 1 to 12): the model's reading of the words, as the code's types hold it.
 use Rattle.model.specs.Answer.{given, refused}
 use Rattle.model.specs.Read.{setOf}
 use Rattle.model.specs.Read as model

@@ -1,4 +1,4 @@
--- What the code's record says in document 01's terms.
+-- What the code's record says in the terms of SCOPE.md, "Broker".
 use Rattle.model.specs.Record as model
 use Rattle.records.specs.declared.Record.{Record}
 

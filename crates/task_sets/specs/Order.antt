@@ -1,4 +1,4 @@
--- The order of task sets (document 01, "Forbidden boxes"): smaller sets first, equal sizes by their ascending task lists.
+-- The order of task sets (SCOPE.md, "Forbidden boxes"): smaller sets first, equal sizes by their ascending task lists.
 -- A set is a mask with bit i for task i.
 use Prim.Native.Nat.{ℕ, zero, suc, _+_, _/_, _%_}
 use mathlib.Core.Bool.{Bool, false, cond, _&&_, _||_}

@@ -3,77 +3,46 @@
 //!
 //! Exit status: 0; 1 if a call was refused, with the refusal as the last line; 2 if the file can't be read.
 
-use arbiter::{sys, BidAnswer, Record, Refusal, Refused};
+use arbiter::{words_of, Analysed, BidAnswer, BoxKind, Refused, Service};
 use std::process::ExitCode;
 
-/// How many of these words are of this kind.
-fn count(words: &[u32], kind: u32) -> usize {
-    words.iter().filter(|&&word| word / sys::FIELDS == kind).count()
+/// What the set and its plan have, in numbers.
+fn describe(analysed: &Analysed) {
+    let set = analysed.set();
+    println!("words: {}, devices: {}, tasks: {}, states: {}", set.words().len(), set.devices(), set.tasks(), set.states());
+    let plan = analysed.plan();
+    let boxes = plan.boxes().count();
+    let unsafe_boxes = plan.boxes().filter(|plan_box| plan_box.kind == BoxKind::Unsafe).count();
+    println!("forbidden boxes: {}, unsafe boxes: {unsafe_boxes}, dead states: {}", boxes - unsafe_boxes, plan.dead_states().count());
 }
 
-/// The plan, in a slice that is doubled while it is too short. It starts short, so that even small sets show the doubling; 1,024 words would do
-/// for most.
-fn plan_of(set: &[u32], map: &mut [u8]) -> Result<Vec<u32>, Refused> {
-    let mut plan = vec![0; 8];
-    loop {
-        match arbiter::analyse(set, map, &mut plan) {
-            Ok(len) => {
-                plan.truncate(len);
-                return Ok(plan);
-            }
-            Err(Refused { refusal: Refusal::PlanTooShort, .. }) => plan = vec![0; 2 * plan.len()],
-            Err(refused) => return Err(refused),
-        }
+/// One bid of every task, each printed; whether all of them were finished already.
+fn all_finished(service: &mut Service, round: usize) -> Result<bool, Refused> {
+    let mut all = true;
+    for task in 0..service.analysed().set().tasks() {
+        let answer = service.bid(task)?;
+        println!("round {round}, task {task}: {answer}");
+        all &= answer == BidAnswer::Finished;
     }
-}
-
-/// One bid, printed; whether the task was finished already.
-fn finished(record: &mut Record, set: &[u32], map: &[u8], round: usize, task: usize) -> Result<bool, Refused> {
-    let answer = record.bid(set, map, task)?;
-    print!("round {round}, task {task}: ");
-    match answer {
-        BidAnswer::Granted => println!("granted"),
-        BidAnswer::Finished => println!("finished"),
-        BidAnswer::Busy { device } => println!("waits for device {device}"),
-        BidAnswer::Held { rank } => println!("held back from unsafe state {rank}"),
-    }
-    Ok(answer == BidAnswer::Finished)
+    Ok(all)
 }
 
 fn serve(bytes: &[u8]) -> Result<(), Refused> {
-    let set = arbiter::words_of(bytes)?;
-    let states = arbiter::read(&set)?;
-    let tasks = count(&set, sys::TASK);
-    println!("words: {}, devices: {}, tasks: {tasks}, states: {states}", set.len(), count(&set, sys::DEVICE));
+    let analysed = Analysed::new(words_of(bytes)?)?;
+    describe(&analysed);
 
-    let mut map = vec![0; states];
-    let plan = plan_of(&set, &mut map)?;
-    println!(
-        "forbidden boxes: {}, unsafe boxes: {}, dead states: {}",
-        count(&plan, sys::FORBIDDEN_BOX),
-        count(&plan, sys::UNSAFE_BOX),
-        count(&plan, sys::DEAD_STATE)
-    );
-
-    let mut record = Record::fresh();
-    let mut round = 0;
-    let mut done = 0;
-    while done < tasks {
+    let mut service = Service::start(analysed);
+    let mut round = 1;
+    while !all_finished(&mut service, round)? {
         round += 1;
-        done = 0;
-        for task in 0..tasks {
-            done += usize::from(finished(&mut record, &set, &map, round, task)?);
-        }
     }
-    println!("grants: {}", record.grants());
+    println!("grants: {}", service.record().grants());
 
-    record.again(&set)?;
+    service.again()?;
     println!("again: every task is at its start");
 
-    let mut route = vec![0; set.len()];
-    let steps = Record::fresh().route(&set, &map, &mut route)?;
     print!("route:");
-    for task in &route[..steps] {
+    for task in service.route()? {
         print!(" {task}");
     }
     println!();

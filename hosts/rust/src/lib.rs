@@ -1,52 +1,92 @@
 //! The console arbiter for hosts in Rust: safe calls into the proved library `libarbiter.a`.
 //!
 //! A set is a list of 32-bit words that says which devices there are and in which order each task claims and releases them
-//! (`docs/AUTHORS.md`). [`analyse`] writes its map, a byte for each state of progress, and its plan, a list of boxes. In service
-//! [`Record::bid`] is asked before every step of a task and says whether it may be made now. `docs/HOSTS.md` tells the whole life of a set.
+//! (`docs/AUTHORS.md`). [`Analysed`] is a set with its map, a byte for each state of progress, and its plan, a list of boxes. [`Service`] is
+//! asked for a bid before every step of a task and says whether it may be made now. `docs/HOSTS.md` tells the whole life of a set.
 //!
 //! ```
+//! # #[cfg(feature = "alloc")] {
+//! use arbiter::{Action, Analysed, BidAnswer, Service};
+//!
 //! // Two tasks that take two devices in opposite order.
 //! let set = [
 //!     0x10000001, 0x10000001, 0x20000000, 0x30000000, 0x30000001, 0x40000001, 0x40000000, 0x20000000, 0x30000001, 0x30000000,
 //!     0x40000000, 0x40000001, 0x5000000C,
 //! ];
-//! let mut map = vec![0; arbiter::read(&set)?];
-//! let mut plan = [0; 64];
-//! let words = arbiter::analyse(&set, &mut map, &mut plan)?;
-//! assert_eq!(words, 11);
+//! let mut service = Service::start(Analysed::new(set)?);
 //!
-//! let mut record = arbiter::Record::fresh();
-//! assert_eq!(record.bid(&set, &map, 0)?, arbiter::BidAnswer::Granted);
-//! assert_eq!(record.bid(&set, &map, 1)?, arbiter::BidAnswer::Held { rank: 6 });
+//! assert_eq!(service.bid(0)?, BidAnswer::Granted);
+//! assert_eq!(service.state().last_action(0), Some(Action::Claim { device: 0 }));
+//! assert_eq!(service.bid(1)?, BidAnswer::Held { rank: 6 });
+//! # }
 //! # Ok::<(), arbiter::Refused>(())
 //! ```
 //!
+//! Only an analysis makes an [`Analysed`], and a [`Service`] owns one together with its record, so no bid is ever asked of another map, set or
+//! record. Both need a heap. The calls over slices that the caller lends are in [`plain`], which says what they trust; [`Set`], [`State`] and
+//! [`Plan`] read words for either.
+//!
 //! The library has no state of its own, so every call may be made from any thread. What must not be shared is what Rust doesn't let one share:
-//! a record takes `&mut self` for a bid. [`analyse`] needs some 300 KiB of stack.
+//! a bid takes `&mut self`. An analysis needs some 300 KiB of stack.
+//!
+//! The linked library must be of this crate's version, [`sys::VERSION`]. That is looked at before anything is lent, and another one makes the call
+//! panic: it is a fault of the build, which no input brings about and no caller could do anything about.
+//!
+//! # Features
+//!
+//! `std`, which is on by default, adds `std::error::Error` for [`Refused`] to `alloc`. `alloc` has [`Analysed`], [`Service`] and [`words_of`].
+//! Without either the crate needs `core` alone.
 
+#![no_std]
 #![deny(missing_docs)]
+// Without a heap these pages speak of Analysed and Service all the same, and have nothing to link to.
+#![cfg_attr(not(feature = "alloc"), allow(rustdoc::broken_intra_doc_links))]
 
-#[cfg(not(all(target_arch = "x86_64", unix)))]
+// The kin of Linux: neither x32, which has short pointers, nor Cygwin and Apple, which have another convention and other archives.
+#[cfg(not(all(target_arch = "x86_64", target_pointer_width = "64", unix, not(target_os = "cygwin"), not(target_vendor = "apple"))))]
 compile_error!("libarbiter.a is made for x86-64 with the System V calling convention");
+
+#[cfg(feature = "alloc")]
+extern crate alloc;
+#[cfg(feature = "std")]
+extern crate std;
 
 // The numbers there are named as in include/arbiter.h, which says what each means.
 #[allow(missing_docs)]
 pub mod sys;
 
-use std::error::Error;
-use std::fmt;
-use std::mem::{offset_of, size_of};
+#[cfg(feature = "alloc")]
+mod analysed;
+mod answers;
+pub mod plain;
+mod plan;
+mod record;
+#[cfg(feature = "alloc")]
+mod service;
+mod set;
+mod state;
+mod version;
+mod words;
 
-const _: () = assert!(size_of::<sys::Answer>() == 16);
-const _: () = assert!(offset_of!(sys::Answer, kind) == 0);
-const _: () = assert!(offset_of!(sys::Answer, refusal) == 4);
-const _: () = assert!(offset_of!(sys::Answer, value) == 8);
-const _: () = assert!(size_of::<sys::Record>() == 12);
-const _: () = assert!(offset_of!(sys::Record, positions) == 0);
-const _: () = assert!(offset_of!(sys::Record, grants) == 8);
+#[cfg(feature = "alloc")]
+pub use analysed::Analysed;
+pub use answers::{BidAnswer, NoSuchRefusal, Refused};
+pub use plan::{BoxKind, Plan, PlanBox};
+pub use record::{Positions, Record};
+#[cfg(feature = "alloc")]
+pub use service::Service;
+pub use set::{Action, Set};
+pub use state::State;
+#[cfg(feature = "alloc")]
+pub use words::words_of;
 
-/// Why a call was turned back. What the place beside it means is said at each; a word's index counts from 0.
+use core::fmt;
+
+/// Why a call was turned back (`docs/SCOPE.md`, "Refusals"). What the place beside it means is said at each; a word's index counts from 0.
+///
+/// A later version may bring more of them, with calls that this one doesn't have.
 #[repr(u8)]
+#[non_exhaustive]
 #[derive(Clone, Copy, Debug, PartialEq, Eq, Hash)]
 pub enum Refusal {
     /// The set has no words; the place is 0.
@@ -119,7 +159,7 @@ impl Refusal {
         Refusal::RouteTooShort,
     ];
 
-    /// The refusal's number in document 01 (the scope paper).
+    /// The refusal's number in `docs/SCOPE.md`, "Refusals"; `TryFrom<u8>` goes the other way.
     pub fn number(self) -> u8 {
         self as u8
     }
@@ -157,165 +197,5 @@ impl Refusal {
 impl fmt::Display for Refusal {
     fn fmt(&self, to: &mut fmt::Formatter<'_>) -> fmt::Result {
         to.write_str(self.text())
-    }
-}
-
-/// A refusal with its place. It prints as `refused 8 at 3: the task claims a device that it holds already`.
-#[derive(Clone, Copy, Debug, PartialEq, Eq, Hash)]
-pub struct Refused {
-    /// Why.
-    pub refusal: Refusal,
-    /// Where, or how much is needed: each [`Refusal`] says which.
-    pub place: usize,
-}
-
-impl fmt::Display for Refused {
-    fn fmt(&self, to: &mut fmt::Formatter<'_>) -> fmt::Result {
-        write!(to, "refused {} at {}: {}", self.refusal.number(), self.place, self.refusal)
-    }
-}
-
-impl Error for Refused {}
-
-/// What the broker answers to a bid. Only `Granted` changes the record.
-#[derive(Clone, Copy, Debug, PartialEq, Eq, Hash)]
-pub enum BidAnswer {
-    /// The task makes its next action now; the record counts it as made.
-    Granted,
-    /// The task has no action left.
-    Finished,
-    /// The task waits and asks again later: its next action names a device that is in use.
-    Busy {
-        /// The device's number.
-        device: usize,
-    },
-    /// The task waits and asks again later: after its next action, tasks would end up waiting for each other for ever.
-    Held {
-        /// The rank of the unsafe state that it would lead to.
-        rank: usize,
-    },
-}
-
-/// An answer's value. Lengths, ranks and numbers of 64 bits all fit, since this crate is for x86-64 alone.
-fn value_of(answer: sys::Answer) -> usize {
-    answer.value as usize
-}
-
-/// The refusal in an answer whose kind is none of the call's others.
-///
-/// The contracts in `crates/arbiter` leave each call only the kinds that the code below asks for before it comes here, and only numbers of
-/// document 01 for refusals. So this panics only if another library was linked in the place of this one.
-fn refused(call: &str, answer: sys::Answer) -> Refused {
-    let refusal = Refusal::ALL.into_iter().find(|refusal| u32::from(refusal.number()) == answer.refusal);
-    match (answer.kind, refusal) {
-        (sys::REFUSED, Some(refusal)) => Refused { refusal, place: value_of(answer) },
-        _ => panic!("{call} gave an answer that it hasn't got ({answer:?}): the linked libarbiter.a isn't the one that belongs to this crate"),
-    }
-}
-
-/// The words in a set file: four bytes a word, lowest first.
-///
-/// Refused are over 16,384 bytes ([`Refusal::TooManyWords`]), then a length that isn't a multiple of 4 ([`Refusal::BytesNotWords`]). Whether the
-/// words are a set is for [`read`] to say; no bytes are no words.
-pub fn words_of(bytes: &[u8]) -> Result<Vec<u32>, Refused> {
-    if bytes.len() > 4 * sys::MAX_WORDS {
-        return Err(Refused { refusal: Refusal::TooManyWords, place: sys::MAX_WORDS });
-    }
-    if bytes.len() % 4 != 0 {
-        return Err(Refused { refusal: Refusal::BytesNotWords, place: bytes.len() / 4 });
-    }
-    Ok(bytes.chunks_exact(4).map(|word| u32::from_le_bytes([word[0], word[1], word[2], word[3]])).collect())
-}
-
-/// Reads a set: its number of states, which is the length of its map, or a refusal 1 to 12.
-pub fn read(set: &[u32]) -> Result<usize, Refused> {
-    // SAFETY: a slice's pointer is non-null and aligned, also when it is empty, and good for its length.
-    let answer = unsafe { sys::arbiter_read(set.as_ptr(), set.len()) };
-    match answer.kind {
-        sys::ACCEPTED => Ok(value_of(answer)),
-        _ => Err(refused("arbiter_read", answer)),
-    }
-}
-
-/// Analyses a set: writes its map and its plan and answers the number of plan words, or a refusal 1 to 14.
-///
-/// Beyond what is written both slices keep what they had. Refusals 1 to 13 leave both untouched; 14 leaves the finished map, and zeros in
-/// the whole plan slice.
-///
-/// It needs some 300 KiB of stack. Threads of the standard library have 2 MiB, unless one says otherwise.
-pub fn analyse(set: &[u32], map: &mut [u8], plan: &mut [u32]) -> Result<usize, Refused> {
-    // SAFETY: as in `read`; what is lent by `&mut` overlaps nothing.
-    let answer = unsafe { sys::arbiter_analyse(set.as_ptr(), set.len(), map.as_mut_ptr(), map.len(), plan.as_mut_ptr(), plan.len()) };
-    match answer.kind {
-        sys::PLANNED => Ok(value_of(answer)),
-        _ => Err(refused("arbiter_analyse", answer)),
-    }
-}
-
-/// The broker's record: how many actions each task has done, and the number of grants.
-///
-/// In service there is one for a set, lent to every bid. It isn't `Copy`, so that no second one comes about by accident.
-#[derive(Clone, Debug, PartialEq, Eq)]
-pub struct Record(sys::Record);
-
-impl Record {
-    /// A record at the start of every task, with no grants.
-    pub fn fresh() -> Record {
-        // SAFETY: the call takes nothing.
-        Record(unsafe { sys::arbiter_fresh() })
-    }
-
-    /// A record from its parts, as a host that stored it has them. Whether it fits a set and its map is looked at in every call: if not, the
-    /// answer is [`Refusal::BadRecord`].
-    pub fn new(positions: [u8; sys::MAX_TASKS], grants: u32) -> Record {
-        Record(sys::Record { positions, grants })
-    }
-
-    /// How many actions each task has done; 0 for tasks that the set doesn't have.
-    pub fn positions(&self) -> [u8; sys::MAX_TASKS] {
-        self.0.positions
-    }
-
-    /// The number of grants so far, modulo 4,294,967,296.
-    pub fn grants(&self) -> u32 {
-        self.0.grants
-    }
-
-    /// May this task make its next action? Refusals are 1 to 13, 16, 17 and 18; only `Granted` changes the record.
-    ///
-    /// `map` is the map that [`analyse`] made for exactly these words.
-    pub fn bid(&mut self, set: &[u32], map: &[u8], task: usize) -> Result<BidAnswer, Refused> {
-        // SAFETY: as in `analyse`.
-        let answer = unsafe { sys::arbiter_bid(&mut self.0, set.as_ptr(), set.len(), map.as_ptr(), map.len(), task) };
-        match answer.kind {
-            sys::GRANTED => Ok(BidAnswer::Granted),
-            sys::FINISHED => Ok(BidAnswer::Finished),
-            sys::BUSY => Ok(BidAnswer::Busy { device: value_of(answer) }),
-            sys::HELD => Ok(BidAnswer::Held { rank: value_of(answer) }),
-            _ => Err(refused("arbiter_bid", answer)),
-        }
-    }
-
-    /// Starts every task anew once all are finished; the grant number stays. Refusals are 1 to 12, 16 and 19, and change nothing.
-    pub fn again(&mut self, set: &[u32]) -> Result<(), Refused> {
-        // SAFETY: as in `analyse`.
-        let answer = unsafe { sys::arbiter_again(&mut self.0, set.as_ptr(), set.len()) };
-        match answer.kind {
-            sys::RESTARTED => Ok(()),
-            _ => Err(refused("arbiter_again", answer)),
-        }
-    }
-
-    /// Writes the steps from the record's state to the end, one byte a step, always the lowest task that can go on, and answers their number.
-    ///
-    /// A slice as long as the set is always long enough. Refusals are 1 to 13, 16, 18, 20 and 21, and fill the whole slice with
-    /// [`sys::NO_STEP`]; otherwise the bytes beyond the route keep what they had.
-    pub fn route(&self, set: &[u32], map: &[u8], route: &mut [u8]) -> Result<usize, Refused> {
-        // SAFETY: as in `analyse`; the record goes by value.
-        let answer = unsafe { sys::arbiter_route(self.0, set.as_ptr(), set.len(), map.as_ptr(), map.len(), route.as_mut_ptr(), route.len()) };
-        match answer.kind {
-            sys::ROUTED => Ok(value_of(answer)),
-            _ => Err(refused("arbiter_route", answer)),
-        }
     }
 }

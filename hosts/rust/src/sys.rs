@@ -1,6 +1,9 @@
 //! The library as it is: the calls of `include/arbiter.h`, its two structs and every number by name.
 //!
-//! Nothing here is safe to call without reading `docs/HOSTS.md`; the crate's root has the safe interface.
+//! Nothing here is safe to call without reading `docs/HOSTS.md`; the crate's root has the safe interface. A caller from here looks first whether
+//! `arbiter_version` answers `VERSION`: the structs may differ from one version to the next.
+
+use core::mem::{offset_of, size_of};
 
 /// A task's position for each of the eight tasks, 0 for absent ones, and the grant number.
 #[repr(C)]
@@ -11,6 +14,7 @@ pub struct Record {
 }
 
 /// What a call answers: its kind, the refusal's number (0 without one), and a value: see the kinds.
+#[must_use = "only GRANTED lets a task act, and a refused call has done nothing"]
 #[repr(C)]
 #[derive(Clone, Copy, Debug, PartialEq, Eq)]
 pub struct Answer {
@@ -19,7 +23,17 @@ pub struct Answer {
     pub value: u64,
 }
 
+// The compiler must lay both out as the library does.
+const _: () = assert!(size_of::<Answer>() == 16);
+const _: () = assert!(offset_of!(Answer, kind) == 0);
+const _: () = assert!(offset_of!(Answer, refusal) == 4);
+const _: () = assert!(offset_of!(Answer, value) == 8);
+const _: () = assert!(size_of::<Record>() == 12);
+const _: () = assert!(offset_of!(Record, positions) == 0);
+const _: () = assert!(offset_of!(Record, grants) == 8);
+
 extern "C" {
+    pub fn arbiter_version() -> u32;
     pub fn arbiter_read(set: *const u32, set_len: usize) -> Answer;
     pub fn arbiter_analyse(set: *const u32, set_len: usize, map: *mut u8, map_len: usize, plan: *mut u32, plan_len: usize) -> Answer;
     pub fn arbiter_fresh() -> Record;
@@ -27,6 +41,9 @@ extern "C" {
     pub fn arbiter_again(record: *mut Record, set: *const u32, set_len: usize) -> Answer;
     pub fn arbiter_route(record: Record, set: *const u32, set_len: usize, map: *const u8, map_len: usize, route: *mut u8, route_len: usize) -> Answer;
 }
+
+// The version that this interface is of, and the library must be: major times 10,000, minor times 100, patch.
+pub const VERSION: u32 = 10000;
 
 // The kinds of an answer. A zeroed answer is a refusal.
 pub const REFUSED: u32 = 0; // value: the refusal's place

@@ -46,7 +46,13 @@ pub fn words(random: &mut Random, input: u64) -> Vec<u32> {
         8..=10 => faulty(random, 1 + (round % FAULTS) as usize),
         11 | 12 => damaged(random),
         13 => noise(random),
-        14 => if round % 24 == 3 { large(random) } else { sized(random, &[9, 30, 100, 300]) },
+        14 => {
+            if round % 24 == 3 {
+                large(random)
+            } else {
+                sized(random, &[9, 30, 100, 300])
+            }
+        }
         _ => limits(random, round),
     }
 }
@@ -349,7 +355,11 @@ fn faulty(random: &mut Random, number: usize) -> Vec<u32> {
     };
     let at_any = |random: &mut Random, words: &[u32], kinds: &[u32]| -> Option<usize> {
         let places: Vec<usize> = (0..words.len()).filter(|&i| kinds.contains(&(words[i] >> 28))).collect();
-        if places.is_empty() { None } else { Some(random.pick(&places)) }
+        if places.is_empty() {
+            None
+        } else {
+            Some(random.pick(&places))
+        }
     };
     // A list that is changed in the middle has its END put right, so that the change alone is what is wrong.
     let set_end = |words: &mut Vec<u32>| {
@@ -416,9 +426,7 @@ fn faulty(random: &mut Random, number: usize) -> Vec<u32> {
                 // 255 actions leave something held, and the next is one too many, whatever it is.
                 words = words_of(&[1, 1], &[]);
                 words.pop();
-                for _ in 0..random.between(1, 3) {
-                    words.push(TASK);
-                }
+                words.resize(words.len() + random.between(1, 3), TASK);
                 for i in 0..255 {
                     words.push(if i % 2 == 0 { claim(0) } else { release(0) });
                 }
@@ -563,8 +571,8 @@ pub fn record(random: &mut Random, set: &Set, map: &[u8]) -> Record {
     let mut positions = [0u8; TASKS];
     let tries = if random.one_in(3) { 1 } else { 10 };
     for _ in 0..tries {
-        for task in 0..tasks {
-            positions[task] = random.between(0, set.length(task)) as u8;
+        for (task, position) in positions.iter_mut().enumerate().take(tasks) {
+            *position = random.between(0, set.length(task)) as u8;
         }
         if map.get(set.rank(&positions)) == Some(&0) {
             break;

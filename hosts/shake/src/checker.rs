@@ -214,6 +214,14 @@ impl Checker {
         }
     }
 
+    /// What the package for Rust was found to make of these words.
+    pub fn package(&self, words: &[u32], found: Result<(), String>) {
+        if let Err(what) = found {
+            let made = Made { call: Call::Analyse, words, beside: " by the package for Rust".to_string(), map: None };
+            self.fail(&made, what);
+        }
+    }
+
     pub fn again(&mut self, random: &mut Random, words: &[u32], worked: &Worked, record: Record) -> Record {
         let made = Made { call: Call::Again, words, beside: format!(" on {record:?}"), map: None };
         let set = Fenced::new(random, words.len(), |i| words.get(i).copied().unwrap_or(0x2000_0000));

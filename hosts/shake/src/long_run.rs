@@ -4,6 +4,7 @@ use crate::cases;
 use crate::checker::{laid_out, lent_record, record_of};
 use crate::random::Random;
 use crate::reference::{Answer, Record, Worked};
+use arbiter::plain::NOT_ANALYSED;
 use arbiter::sys;
 
 pub struct Done {
@@ -17,7 +18,7 @@ pub struct Done {
 pub fn run(seed: u64, bids: u64, first_grants: u32) -> Result<Done, String> {
     let words = cases::example_a();
     let worked = Worked::new(&words);
-    let (mut map, mut plan) = (vec![0u8; worked.map.len()], vec![0u32; worked.plan.len()]);
+    let (mut map, mut plan) = (vec![NOT_ANALYSED; worked.map.len()], vec![0u32; worked.plan.len()]);
     let answer = unsafe { sys::arbiter_analyse(words.as_ptr(), words.len(), map.as_mut_ptr(), map.len(), plan.as_mut_ptr(), plan.len()) };
     if answer != laid_out(Answer::Planned(worked.plan.len() as u64)) || map != worked.map || plan != worked.plan {
         return Err(format!("example a is analysed wrongly: {answer:?}"));
@@ -63,7 +64,14 @@ pub fn run(seed: u64, bids: u64, first_grants: u32) -> Result<Done, String> {
 
 #[allow(clippy::too_many_arguments)]
 fn check(
-    done: &Done, call: &str, task: usize, library: sys::Answer, reference: Answer, record: &sys::Record, expected: &Record, first_grants: u32,
+    done: &Done,
+    call: &str,
+    task: usize,
+    library: sys::Answer,
+    reference: Answer,
+    record: &sys::Record,
+    expected: &Record,
+    first_grants: u32,
 ) -> Result<(), String> {
     // Apart from the reference: what was there at first and every grant since, modulo 4,294,967,296.
     let counted = ((first_grants as u64 + done.grants) & 0xFFFF_FFFF) as u32;

@@ -1,4 +1,5 @@
-//! Shakes the library: random, damaged and senseless inputs through every call, each answer and every byte afterwards held to `reference`.
+//! Shakes the library: random, damaged and senseless inputs through every call, each answer and every byte afterwards held to `reference`. What the package for Rust
+//! makes of accepted sets is held to it too.
 //!
 //!     shake [INPUTS [SEED]]        so many lists of words, several calls with each; then 100 times as many bids on one record, at most 10 million
 //!     shake replay SEED INPUT      one input of a run again, alone
@@ -9,9 +10,11 @@ mod cases;
 mod checker;
 mod fenced;
 mod long_run;
+mod package;
 mod random;
 mod reference;
 
+use arbiter::sys;
 use checker::{Checker, Seen, CALLS};
 use random::Random;
 use reference::{Record, Set, Worked};
@@ -34,6 +37,12 @@ fn main() {
             }),
         }
     };
+    // The calls below are made as they are, so their version is looked at here.
+    let library = unsafe { sys::arbiter_version() };
+    if library != sys::VERSION {
+        println!("FAIL: the library's version is {library}, not {}", sys::VERSION);
+        std::process::exit(1);
+    }
     let replay = arguments.first().is_some_and(|word| word == "replay");
     let (first, last, seed) = if replay { (number(2, 0), number(2, 0) + 1, number(1, SEED)) } else { (0, number(0, INPUTS), number(1, SEED)) };
     let thread = std::thread::Builder::new().stack_size(STACK).spawn(move || {
@@ -88,6 +97,10 @@ fn shake(checker: &mut Checker, seed: u64, input: u64) {
             }
             let record = cases::record(random, set, &worked.map);
             checker.again(random, &words, &worked, record);
+            // Of one set in four, for the time that it takes.
+            if random.one_in(4) {
+                checker.package(&words, package::check(random, &words, &worked, set));
+            }
         }
     }
 }
@@ -149,7 +162,11 @@ fn service(seed: u64, bids: u64, first_grants: u32) -> u64 {
                 "one record from grant number {first_grants}: {} bids, {} of them granted, {} agains, {} times past 4,294,967,295",
                 done.bids, done.grants, done.agains, done.wraps
             );
-            if first_grants == 0 { done.bids } else { done.wraps }
+            if first_grants == 0 {
+                done.bids
+            } else {
+                done.wraps
+            }
         }
     }
 }
@@ -174,7 +191,7 @@ fn print_table(seen: &Seen) {
     }
 }
 
-/// Every answer that the paper gives a call must have come, or the run shows less than it says. 15 is the printer's alone.
+/// Every answer that docs/SCOPE.md gives a call must have come, or the run shows less than it says. 15 is the printer's alone.
 fn all_seen(seen: &Seen) {
     let set: Vec<usize> = (1..=12).collect();
     let expected: [(&[usize], &[usize]); 5] =

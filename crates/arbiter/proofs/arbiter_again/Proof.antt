@@ -52,7 +52,8 @@ use Rattle.broker.proofs.again_in_place.Symbol.{name as #broker·again-in-place
 use Rattle.broker.proofs.again_in_place.Met as call-thm
 use Rattle.arbiter.specs.Told.{structOf, ToldServed}
 use Rattle.arbiter.specs.declared.answers.Answer.{Answer}
-use Rattle.arbiter.proofs.Service.{told-served, hears-last, Tells, calls-teller}
+use Rattle.broker.proofs.InPlace.{hears-last}
+use Rattle.arbiter.proofs.Service.{told-served, Tells, calls-teller}
 use Rattle.arbiter.proofs.answers.Answer as R
 use Rattle.arbiter.proofs.answers.Answer.Laws as R′
 use Rattle.arbiter.proofs.answers.of_again.Symbol as of-def

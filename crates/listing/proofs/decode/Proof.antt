@@ -1,19 +1,19 @@
 -- `listing::decode` meets its contract: by cases, as the definition goes.
 -- Assumes nothing.
-use mathlib.Core.Path.{refl}
 use borrow.Author.Needs.{needs}
-use borrow.Author.Tests.{lt-ltb, le-ltb, eq-eqb, ne-eqb}
-use Rattle.listing.specs.Words.{decoded, wordsAfter}
+use Rattle.model.specs.Answer.{ifGiven}
+use Rattle.model.proofs.FileWords.{count-words, too-many, not-whole, whole}
+use Rattle.listing.specs.Words.{decodedOf}
 use Rattle.listing.proofs.decode.Statement.{statement}
 use Rattle.listing.proofs.decode.Tie as tie
 
 returns : tie.Need-returns
-unfolding decoded wordsAfter
-returns c = (simp (lt-ltb _ _ (c .if1 .taken)), refl)
+unfolding decodedOf ifGiven
+returns c = let e = too-many (c .before .before .before .args .bytes .now) (c .if1 .taken) in (rw e, rw e)
 
 returns-2 : tie.Need-returns-2
-unfolding decoded wordsAfter
-returns-2 c = (simp (le-ltb _ _ (c .before .if1 .left), ne-eqb _ _ (c .if2 .taken)), refl)
+unfolding decodedOf ifGiven
+returns-2 c = let e = not-whole (c .before .before .before .before .args .bytes .now) (c .before .if1 .left) (c .if2 .taken) in (rw e, rw e)
 
 fill-words-requires : tie.Need-fill-words-requires
 fill-words-requires c κs = search needs
@@ -22,10 +22,12 @@ same-length : tie.Need-same-length
 same-length c = search needs
 
 returns-3 : tie.Need-returns-3
-unfolding decoded wordsAfter
+unfolding decodedOf ifGiven
 returns-3 c =
-    let whole = c .before .before .before .before in
-    (simp (le-ltb _ _ (whole .before .if1 .left), eq-eqb _ _ (whole .if2 .left)), c .before .before .fill-words .ensures)
+    let tested = c .before .before .before .before in
+    let bs = tested .before .before .before .before .args .bytes .now in
+    let e = whole bs (tested .before .if1 .left) (tested .if2 .left) in
+    (rw (e, count-words bs), rw e (c .before .before .fill-words .ensures))
 
 pub decode-spec : {M : Type 1} → statement M
 decode-spec = tie.close (tie.spec returns returns-2 fill-words-requires same-length returns-3)

@@ -6,7 +6,7 @@ use Prim.Native.Nat.{ℕ, _-_, _/_, _≤_, min}
 use native.Mathlib.Omega.{arith}
 use lib.ListN.{length, take, drop, getD, set, length-set}
 use Rattle.model.proofs.Lists.{length-tabulate, getD-tabulate}
-use Rattle.listing.specs.Words.{wordAt, wordsIn}
+use Rattle.model.specs.Printed.{wordAt, wordsIn}
 use Rattle.listing.proofs.Front.{front-suc, front-all}
 use Rattle.listing.proofs.fill_words.Statement.{statement}
 use Rattle.listing.proofs.fill_words.Tie as tie

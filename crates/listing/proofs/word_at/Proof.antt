@@ -1,7 +1,7 @@
 -- `listing::word_at` meets its contract: the indices lie within the whole words, and four bytes with their weights make a word.
 -- Assumes nothing.
 use borrow.Author.Needs.{needs}
-use Rattle.listing.specs.Words.{wordAt}
+use Rattle.model.specs.Printed.{wordAt}
 use Rattle.listing.proofs.word_at.Statement.{statement}
 use Rattle.listing.proofs.word_at.Tie as tie
 

@@ -1,0 +1,107 @@
+-- `printing::print` meets its contract: by what the bytes are, what `print_plan` shows of their words, or the refusal.
+use Prim.Native.Nat.{ℕ, _≤_}
+use native.Mathlib.Omega.{arith}
+use mathlib.Core.Path.{_≡_, sym, ap, ap₂, _∙_}
+use lib.ListN.{length, replicate, length-replicate}
+use lib.Seq.{length-take-le}
+use borrow.Author.Needs.{needs}
+use Rattle.model.specs.Answer.{given, _then_}
+use Rattle.model.specs.Read.{read}
+use Rattle.model.specs.Printed.{wordsIn, wordsOf, toPrint, textOf, shown}
+use Rattle.listing.proofs.Callers.{word-count, as-refused}
+use Rattle.printing.proofs.Shown.{bytes-of, file-words, of-words, of-none, long-enough, too-short}
+use Rattle.printing.proofs.print.Statement.{statement}
+use Rattle.printing.proofs.print.Tie as tie
+
+returns : tie.Need-returns
+returns c = let a = c .before .before .before .args in (too-short (a .bytes .now) (a .text .now) (c .if1 .taken), omega arith)
+
+slice-aggregate-decode : tie.Need-slice-aggregate-decode
+slice-aggregate-decode c = search needs
+
+decode-requires : tie.Need-decode-requires
+decode-requires c κs = search needs
+
+enum-known-count : tie.Need-enum-known-count
+enum-known-count c = search needs
+
+-- the function's start, from the words
+abbrev begun : tie.After-decode → tie.Start
+begun c = c .before .before .before .before .before
+
+-- the words, from each of the two answers
+abbrev accepted : tie.After-known-told → tie.After-decode
+accepted c = c .before .before .before .before
+
+abbrev turned : tie.After-known-told2 → tie.After-decode
+turned c = c .before .before .before .before
+
+-- they are all that the bytes have
+all-words : (c : tie.After-known-told) → let bs = begun (accepted c) .args .bytes .now in let k = c .before .count .given .0 .0 in
+    (wordsOf bs ≡ given (wordsIn bs)) × (k ≡ length (wordsIn bs)) × (k ≤ 4096)
+all-words c = word-count _ _ (sym (c .before .count .given .1) ∙ accepted c .decode .ensures .0)
+
+within : (c : tie.After-known-told) → c .before .count .given .0 .0 ≤ length (accepted c .decode .last .1 .0)
+within c = omega (arith, all-words c .2, accepted c .decode .kept .1 .0, length-replicate {A = ℕ} 4096 0)
+
+array-share-prefix-words : tie.Need-array-share-prefix-words
+array-share-prefix-words c = within c
+
+slice-aggregate-print-plan : tie.Need-slice-aggregate-print-plan
+slice-aggregate-print-plan c = sym (length-take-le _ _ (within (c .before)))
+
+print-plan-requires : tie.Need-print-plan-requires
+print-plan-requires c κs = search needs
+
+enum-known-number : tie.Need-enum-known-number
+enum-known-number c = search needs
+
+put-refusal-requires : tie.Need-put-refusal-requires
+put-refusal-requires c κs = search needs
+
+same-length : tie.Need-same-length
+same-length c = search needs
+
+returns-2 : tie.Need-returns-2
+returns-2 c =
+    let printed = c .before .before in
+    let told = printed .before .before .before in
+    let e = printed .print-plan .ensures in
+    let a = begun (accepted told) .args in
+    let bs = a .bytes .now in
+    let text = a .text .now in
+    let w = all-words told in
+    let ws = file-words bs (replicate 4096 0) _ _ (w .0) (w .1) (omega (arith, w .2, length-replicate {A = ℕ} 4096 0)) (accepted told .decode .ensures .1) in
+    (e .0 ∙ ap (λ l. shown (textOf (read l then toPrint)) text) ws ∙ ap (λ t. shown t text) (sym (of-words bs (wordsIn bs) (w .0))) ∙ long-enough bs text (omega arith), e .1)
+
+same-length-2 : tie.Need-same-length-2
+same-length-2 c = search needs
+
+returns-3 : tie.Need-returns-3
+returns-3 c =
+    let put = c .before .before in
+    let told = put .before .before in
+    let e = put .put-refusal .ensures in
+    let a = begun (turned told) .args in
+    let bs = a .bytes .now in
+    let text = a .text .now in
+    let none = of-none bs _ _ (as-refused (wordsOf bs) _ _ (sym (told .before .number .given .1) ∙ turned told .decode .ensures .0)) in
+    (ap₂ bytes-of (e .0) (e .1 .1) ∙ ap (λ t. shown t text) (sym none) ∙ long-enough bs text (omega arith), omega (arith, e .1 .0))
+
+pub print-spec : {M : Type 1} → statement M
+print-spec =
+    tie.close
+    (tie.spec
+    returns
+    slice-aggregate-decode
+    decode-requires
+    enum-known-count
+    array-share-prefix-words
+    slice-aggregate-print-plan
+    print-plan-requires
+    enum-known-number
+    put-refusal-requires
+    same-length
+    returns-2
+    same-length-2
+    returns-3)

@@ -1,0 +1,37 @@
+// Empty std::vectors lent to every call that takes slices: their data() is NULL, which ARBITER_LEND turns into an address. C++11.
+#include "arbiter.h"
+
+#include <cstdio>
+#include <cstdlib>
+#include <vector>
+
+static void check(bool agrees, const char *what) {
+    if (agrees) return;
+    std::printf("vector_test: %s\n", what);
+    std::exit(1);
+}
+
+int main() {
+    const std::vector<uint32_t> set = {0x20000000, 0x50000001}; // one task without actions: one state, an empty route
+    const std::vector<uint32_t> no_set;
+    std::vector<uint32_t> no_plan;
+    std::vector<uint8_t> no_map, no_route, map(1, ARBITER_NOT_ANALYSED);
+    const std::vector<uint8_t> &no_map_to_read = no_map;
+
+    check(arbiter_read(ARBITER_LEND(no_set.data()), no_set.size()).refusal == ARBITER_NO_WORDS, "read without words");
+    check(arbiter_read(ARBITER_LEND(set.data()), set.size()).value == map.size(), "read");
+    arbiter_answer no_room = arbiter_analyse(set.data(), set.size(), ARBITER_LEND(no_map.data()), 0, ARBITER_LEND(no_plan.data()), 0);
+    check(no_room.refusal == ARBITER_MAP_TOO_SHORT, "analyse without a map");
+    arbiter_answer no_words = arbiter_analyse(set.data(), set.size(), map.data(), map.size(), ARBITER_LEND(no_plan.data()), 0);
+    check(no_words.refusal == ARBITER_PLAN_TOO_SHORT && map[0] == ARBITER_OPEN, "analyse without a plan");
+
+    arbiter_record record = arbiter_fresh();
+    arbiter_answer bid = arbiter_bid(&record, set.data(), set.size(), ARBITER_LEND(no_map_to_read.data()), 0, 0);
+    check(bid.refusal == ARBITER_MAP_TOO_SHORT, "bid without a map");
+    check(arbiter_again(&record, ARBITER_LEND(no_set.data()), 0).refusal == ARBITER_NO_WORDS, "again without words");
+    arbiter_answer route = arbiter_route(record, set.data(), set.size(), map.data(), map.size(), ARBITER_LEND(no_route.data()), 0);
+    check(route.kind == ARBITER_ROUTED && route.value == 0, "an empty route");
+
+    check(ARBITER_LEND(no_plan.data()) != nullptr && ARBITER_LEND(map.data()) == map.data(), "the address that is lent");
+    return 0;
+}

@@ -1,0 +1,107 @@
+//! What calls answer: a bid's answer, a refusal with its place, and how both are had from the library's numbers.
+
+use crate::{sys, Refusal};
+use core::fmt;
+
+/// What the broker answers to a bid. Only `Granted` lets the task act and changes the record.
+#[must_use = "only Granted lets the task act"]
+#[derive(Clone, Copy, Debug, PartialEq, Eq, Hash)]
+pub enum BidAnswer {
+    /// The task makes its next action now; the record counts it as made.
+    Granted,
+    /// The task has no action left.
+    Finished,
+    /// The task waits and asks again later: its next action names a device that is in use.
+    Busy {
+        /// The device's number.
+        device: usize,
+    },
+    /// The task waits and asks again later: after its next action, tasks would end up waiting for each other for ever.
+    Held {
+        /// The rank of the unsafe state that it would lead to. [`Set::state_of_rank`](crate::Set::state_of_rank) has its positions.
+        rank: usize,
+    },
+}
+
+impl BidAnswer {
+    /// The name of its kind, for a log; `arbiter_kind_text` in C. As a whole it prints with its value, as `waits for device 1`.
+    pub fn text(self) -> &'static str {
+        match self {
+            BidAnswer::Granted => "granted",
+            BidAnswer::Finished => "finished",
+            BidAnswer::Busy { .. } => "busy",
+            BidAnswer::Held { .. } => "held",
+        }
+    }
+}
+
+impl fmt::Display for BidAnswer {
+    fn fmt(&self, to: &mut fmt::Formatter<'_>) -> fmt::Result {
+        match self {
+            BidAnswer::Granted | BidAnswer::Finished => to.write_str(self.text()),
+            BidAnswer::Busy { device } => write!(to, "waits for device {device}"),
+            BidAnswer::Held { rank } => write!(to, "held back from unsafe state {rank}"),
+        }
+    }
+}
+
+/// A refusal with its place. It prints as `refused 8 at 3: the task claims a device that it holds already`.
+#[derive(Clone, Copy, Debug, PartialEq, Eq, Hash)]
+pub struct Refused {
+    /// Why.
+    pub refusal: Refusal,
+    /// Where, or how much is needed: each [`Refusal`] says which.
+    pub place: usize,
+}
+
+impl fmt::Display for Refused {
+    fn fmt(&self, to: &mut fmt::Formatter<'_>) -> fmt::Result {
+        write!(to, "refused {} at {}: {}", self.refusal.number(), self.place, self.refusal)
+    }
+}
+
+#[cfg(feature = "std")]
+impl std::error::Error for Refused {}
+
+/// A number that is no refusal's.
+#[derive(Clone, Copy, Debug, PartialEq, Eq, Hash)]
+pub struct NoSuchRefusal(pub u8);
+
+impl fmt::Display for NoSuchRefusal {
+    fn fmt(&self, to: &mut fmt::Formatter<'_>) -> fmt::Result {
+        write!(to, "no refusal has the number {}", self.0)
+    }
+}
+
+#[cfg(feature = "std")]
+impl std::error::Error for NoSuchRefusal {}
+
+impl TryFrom<u8> for Refusal {
+    type Error = NoSuchRefusal;
+
+    /// The refusal of this number.
+    ///
+    /// # Errors
+    ///
+    /// The number itself, if it is no refusal's.
+    fn try_from(number: u8) -> Result<Refusal, NoSuchRefusal> {
+        Refusal::ALL.into_iter().find(|refusal| refusal.number() == number).ok_or(NoSuchRefusal(number))
+    }
+}
+
+/// An answer's value. Lengths, ranks and numbers of 64 bits all fit, since this crate is for x86-64 alone.
+pub(crate) fn value_of(answer: sys::Answer) -> usize {
+    answer.value as usize
+}
+
+/// The refusal in an answer whose kind is none of the call's others.
+///
+/// The contracts in `crates/arbiter` leave each call only the kinds that [`crate::plain`] asks for before it comes here, and for refusals only the
+/// numbers of `docs/SCOPE.md`. So this panics only if another library was linked in the place of this one.
+pub(crate) fn refused(call: &str, answer: sys::Answer) -> Refused {
+    let refusal = u8::try_from(answer.refusal).ok().and_then(|number| Refusal::try_from(number).ok());
+    match (answer.kind, refusal) {
+        (sys::REFUSED, Some(refusal)) => Refused { refusal, place: value_of(answer) },
+        _ => panic!("{call} gave an answer that it hasn't got ({answer:?}): the linked libarbiter.a isn't the one that belongs to this crate"),
+    }
+}

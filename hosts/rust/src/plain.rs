@@ -1,0 +1,139 @@
+//! The calls as the library has them, over slices that the caller lends: for hosts without a heap, and for those that keep a set's memory themselves.
+//!
+//! No content of a slice or record is undefined: what a call finds wrong is a refusal. But a call can't find everything. It trusts that
+//!
+//! - **the map is the one that [`analyse`] wrote for exactly these words.** Another set's map of the same length is taken for this one's, and its
+//!   grants may lead to tasks that wait for each other for ever.
+//! - **an analysis wrote it at all.** A byte of 0 is [`sys::OPEN`], so a map slice that was zeroed and never analysed grants every bid. Fill it with
+//!   [`NOT_ANALYSED`] before: then the first bid is refused with [`Refusal::BadRecord`](crate::Refusal::BadRecord).
+//! - **the record is as the last call left it**, and the only one for the set's devices.
+//!
+//! [`Analysed`](crate::Analysed) and [`Service`](crate::Service) see to all three; they are this module's calls with the slices in one hand.
+//!
+//! ```
+//! use arbiter::{plain, BidAnswer, Record};
+//!
+//! # let set = [
+//! #     0x10000001, 0x10000001, 0x20000000, 0x30000000, 0x30000001, 0x40000001, 0x40000000, 0x20000000, 0x30000001, 0x30000000,
+//! #     0x40000000, 0x40000001, 0x5000000C,
+//! # ];
+//! let mut map = [plain::NOT_ANALYSED; 64];
+//! let mut plan = [0; 64];
+//! let words = plain::analyse(&set, &mut map, &mut plan)?;
+//! assert_eq!(plan[words - 1], 0x5000000A);
+//!
+//! let mut record = Record::fresh();
+//! assert_eq!(plain::bid(&mut record, &set, &map, 0)?, BidAnswer::Granted);
+//! assert_eq!(plain::bid(&mut record, &set, &map, 1)?, BidAnswer::Held { rank: 6 });
+//! # Ok::<(), arbiter::Refused>(())
+//! ```
+
+use crate::answers::{refused, value_of};
+use crate::{sys, version, BidAnswer, Record, Refused};
+
+/// What a map slice is filled with before the analysis: no byte of a map, so that one that no analysis wrote is refused and grants nothing.
+pub const NOT_ANALYSED: u8 = 0xFF;
+
+/// Reads a set: its number of states, which is the length of its map.
+///
+/// # Errors
+///
+/// Refusals 1 to 12, which are the set's.
+///
+/// # Panics
+///
+/// If the linked library isn't the one that belongs to this crate.
+pub fn read(set: &[u32]) -> Result<usize, Refused> {
+    version::check();
+    // SAFETY: a slice's pointer is non-null and aligned, also when it is empty, and good for its length.
+    let answer = unsafe { sys::arbiter_read(set.as_ptr(), set.len()) };
+    match answer.kind {
+        sys::ACCEPTED => Ok(value_of(answer)),
+        _ => Err(refused("arbiter_read", answer)),
+    }
+}
+
+/// Analyses a set: writes its map and its plan and answers the number of plan words. Beyond what is written both slices keep what they had.
+///
+/// Fill the map slice with [`NOT_ANALYSED`] before. Nobody knows how long a plan gets: 1,024 words do for most sets.
+///
+/// It needs some 300 KiB of stack. Threads of the standard library have 2 MiB, unless one says otherwise.
+///
+/// # Errors
+///
+/// Refusals 1 to 14. 1 to 13 leave both slices untouched; 14 leaves the finished map, and zeros in the whole plan slice.
+///
+/// # Panics
+///
+/// If the linked library isn't the one that belongs to this crate.
+pub fn analyse(set: &[u32], map: &mut [u8], plan: &mut [u32]) -> Result<usize, Refused> {
+    version::check();
+    // SAFETY: as in `read`; what is lent by `&mut` overlaps nothing.
+    let answer = unsafe { sys::arbiter_analyse(set.as_ptr(), set.len(), map.as_mut_ptr(), map.len(), plan.as_mut_ptr(), plan.len()) };
+    match answer.kind {
+        sys::PLANNED => Ok(value_of(answer)),
+        _ => Err(refused("arbiter_analyse", answer)),
+    }
+}
+
+/// May this task make its next action? Only [`BidAnswer::Granted`] changes the record.
+///
+/// # Errors
+///
+/// Refusals 1 to 13, 16, 17 and 18.
+///
+/// # Panics
+///
+/// If the linked library isn't the one that belongs to this crate.
+pub fn bid(record: &mut Record, set: &[u32], map: &[u8], task: usize) -> Result<BidAnswer, Refused> {
+    version::check();
+    // SAFETY: as in `analyse`.
+    let answer = unsafe { sys::arbiter_bid(&mut record.0, set.as_ptr(), set.len(), map.as_ptr(), map.len(), task) };
+    match answer.kind {
+        sys::GRANTED => Ok(BidAnswer::Granted),
+        sys::FINISHED => Ok(BidAnswer::Finished),
+        sys::BUSY => Ok(BidAnswer::Busy { device: value_of(answer) }),
+        sys::HELD => Ok(BidAnswer::Held { rank: value_of(answer) }),
+        _ => Err(refused("arbiter_bid", answer)),
+    }
+}
+
+/// Starts every task anew once all are finished; the grant number stays.
+///
+/// # Errors
+///
+/// Refusals 1 to 12, 16 and 19, which change nothing.
+///
+/// # Panics
+///
+/// If the linked library isn't the one that belongs to this crate.
+pub fn again(record: &mut Record, set: &[u32]) -> Result<(), Refused> {
+    version::check();
+    // SAFETY: as in `analyse`.
+    let answer = unsafe { sys::arbiter_again(&mut record.0, set.as_ptr(), set.len()) };
+    match answer.kind {
+        sys::RESTARTED => Ok(()),
+        _ => Err(refused("arbiter_again", answer)),
+    }
+}
+
+/// Writes the steps from the record's state to the end, one byte a step, always the lowest task that can go on, and answers their number.
+///
+/// A slice as long as the set is always long enough. The bytes beyond the route keep what they had.
+///
+/// # Errors
+///
+/// Refusals 1 to 13, 16, 18, 20 and 21, which fill the whole slice with [`sys::NO_STEP`].
+///
+/// # Panics
+///
+/// If the linked library isn't the one that belongs to this crate.
+pub fn route(record: &Record, set: &[u32], map: &[u8], route: &mut [u8]) -> Result<usize, Refused> {
+    version::check();
+    // SAFETY: as in `analyse`; the record goes by value.
+    let answer = unsafe { sys::arbiter_route(record.0, set.as_ptr(), set.len(), map.as_ptr(), map.len(), route.as_mut_ptr(), route.len()) };
+    match answer.kind {
+        sys::ROUTED => Ok(value_of(answer)),
+        _ => Err(refused("arbiter_route", answer)),
+    }
+}

@@ -1,0 +1,40 @@
+//! The sets of the desk examples (`docs/SCOPE.md`, "Desk examples") and what several tests ask for.
+#![allow(dead_code)] // No test uses all of it.
+
+use arbiter::{Refusal, Refused};
+
+/// Example a: two tasks that take two devices in opposite order.
+pub const A: [u32; 13] = [
+    0x10000001, 0x10000001, 0x20000000, 0x30000000, 0x30000001, 0x40000001, 0x40000000, 0x20000000, 0x30000001, 0x30000000, 0x40000000, 0x40000001, 0x5000000C,
+];
+
+/// How many states it has.
+pub const STATES: usize = 25;
+
+/// Its plan.
+pub const PLAN: [u32; 11] =
+    [0x60000000, 0x80000103, 0x80010202, 0x60000001, 0x80000202, 0x80010103, 0x70000000, 0x80000101, 0x80010101, 0x90000006, 0x5000000A];
+
+/// Example d: three devices, and two tasks with two unsafe boxes.
+pub const D: [u32; 18] = [
+    0x10000001, 0x10000001, 0x10000001, 0x20000000, 0x30000002, 0x30000000, 0x40000002, 0x30000001, 0x40000001, 0x40000000, 0x20000000, 0x30000001, 0x30000002,
+    0x40000002, 0x30000000, 0x40000000, 0x40000001, 0x50000011,
+];
+
+/// Example e: three tasks that claim and release one device of capacity 2.
+pub const E: [u32; 11] = [0x10000002, 0x20000000, 0x30000000, 0x40000000, 0x20000000, 0x30000000, 0x40000000, 0x20000000, 0x30000000, 0x40000000, 0x5000000A];
+
+pub fn refused<T>(refusal: Refusal, place: usize) -> Result<T, Refused> {
+    Err(Refused { refusal, place })
+}
+
+/// A set of one device of this capacity and tasks that claim and release it so many times.
+pub fn users_of_one_device(capacity: u32, times: &[usize]) -> Vec<u32> {
+    let mut set = vec![0x10000000 + capacity];
+    for &times in times {
+        set.push(0x20000000);
+        set.extend([0x30000000, 0x40000000].repeat(times));
+    }
+    set.push(0x50000000 + set.len() as u32);
+    set
+}

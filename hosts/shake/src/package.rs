@@ -1,0 +1,122 @@
+//! What the package for Rust makes of an accepted set, held to the reference: the set's parts and states, the plan's boxes, an analysis that finds its own room, and a
+//! short service.
+
+use crate::cases;
+use crate::random::Random;
+use crate::reference::{held_after, Action, Answer, Refusal, Set, State, Worked};
+use arbiter::{Analysed, BidAnswer, BoxKind, Plan, Record, Refused, Service};
+use std::fmt::Debug;
+
+const STATES: usize = 3; // looked at of each set
+const BIDS: usize = 8;
+
+/// All of it for one set; the first difference, if there is one.
+pub fn check(random: &mut Random, words: &[u32], worked: &Worked, set: &Set) -> Result<(), String> {
+    let analysed = Analysed::new(words).map_err(|refused| refused.to_string())?;
+    same("map", analysed.map(), &worked.map)?;
+    same("plan", analysed.plan().words(), &worked.plan)?;
+    same("plan put together from its boxes", words_of_plan(analysed.plan()), worked.plan.clone())?;
+    parts(analysed.set(), set)?;
+    for _ in 0..STATES {
+        let rank = random.below(worked.map.len());
+        state(analysed.set(), set, rank)?;
+    }
+    same("state beyond the last", analysed.set().state_of_rank(worked.map.len()), None)?;
+    service(random, analysed, worked, set)
+}
+
+fn same<T: PartialEq + Debug>(what: &str, package: T, reference: T) -> Result<(), String> {
+    if package == reference {
+        return Ok(());
+    }
+    Err(format!("{what}: the package has {package:X?}, the reference {reference:X?}"))
+}
+
+fn words_of_plan(plan: Plan) -> Vec<u32> {
+    let mut words = Vec::new();
+    for plan_box in plan.boxes() {
+        words.push(match plan_box.kind {
+            BoxKind::Forbidden { device } => 0x6000_0000 | device as u32,
+            BoxKind::Unsafe => 0x7000_0000,
+        });
+        for (task, side) in plan_box.sides().enumerate() {
+            words.push(0x8000_0000 | (task as u32) << 16 | u32::from(*side.start()) << 8 | u32::from(*side.end()));
+        }
+    }
+    words.extend(plan.dead_states().map(|rank| 0x9000_0000 | rank as u32));
+    words.push(0x5000_0000 | words.len() as u32);
+    words
+}
+
+fn told(action: arbiter::Action) -> Action {
+    match action {
+        arbiter::Action::Claim { device } => Action::Claim(device),
+        arbiter::Action::Release { device } => Action::Release(device),
+    }
+}
+
+fn parts(package: arbiter::Set, set: &Set) -> Result<(), String> {
+    same("number of tasks", package.tasks(), set.tasks.len())?;
+    same("number of devices", package.devices(), set.capacities.len())?;
+    same("capacities", package.capacities().collect(), set.capacities.clone())?;
+    for (task, actions) in set.tasks.iter().enumerate() {
+        same("actions", package.actions(task).map(told).collect(), actions.clone())?;
+    }
+    same("number of states", package.states(), set.grid())
+}
+
+fn state(package: arbiter::Set, set: &Set, rank: usize) -> Result<(), String> {
+    let state = package.state_of_rank(rank).ok_or(format!("no state of rank {rank}"))?;
+    let positions: State = state.positions();
+    same("rank", (state.rank(), set.rank(&positions)), (rank, rank))?;
+    same("state at its positions", package.state(positions), Some(state))?;
+    let mut holders = vec![Vec::new(); set.capacities.len()];
+    for (task, actions) in set.tasks.iter().enumerate() {
+        let done = positions[task] as usize;
+        same("last action", state.last_action(task).map(told), actions[..done].last().copied())?;
+        same("next action", state.next_action(task).map(told), actions.get(done).copied())?;
+        for device in held_after(&actions[..done]) {
+            holders[device].push(task);
+        }
+    }
+    for (device, holders) in holders.into_iter().enumerate() {
+        same("holders", state.holders(device).collect(), holders)?;
+    }
+    Ok(())
+}
+
+/// From any record, if it is open, by bids of any tasks.
+fn service(random: &mut Random, analysed: Analysed, worked: &Worked, set: &Set) -> Result<(), String> {
+    let mut record = cases::record(random, set, &worked.map);
+    let fits = record.positions.iter().zip(set.end()).all(|(&position, last)| position <= last);
+    same("whether there is such a state", analysed.set().state(record.positions).is_some(), fits)?;
+    let open = worked.route(&worked.map, &record, &mut [0; 4096]);
+    let mut service = match (Service::resume(analysed, Record::new(record.positions, record.grants)), open) {
+        (Ok(service), Answer::Routed(_)) => service,
+        (Err(refused), Answer::Refused(refusal)) => return same("refused record", number_and_place(refused), refusal),
+        (resumed, answer) => return Err(format!("resume gives {:?}, the reference's route {answer:?}", resumed.map(|_| ()))),
+    };
+    for _ in 0..BIDS {
+        let task = cases::task(random, set.tasks.len());
+        same("bid", answer_of(service.bid(task)), worked.bid(&worked.map, &mut record, task))?;
+        let again = service.again().map_or_else(|refused| Answer::Refused(number_and_place(refused)), |()| Answer::Restarted);
+        same("again", again, worked.again(&mut record))?;
+        same("record", service.record(), &Record::new(record.positions, record.grants))?;
+        same("state", service.state().positions(), record.positions)?;
+    }
+    Ok(())
+}
+
+fn number_and_place(refused: Refused) -> Refusal {
+    Refusal { number: refused.refusal.number().into(), place: refused.place as u64 }
+}
+
+fn answer_of(answer: Result<BidAnswer, Refused>) -> Answer {
+    match answer {
+        Ok(BidAnswer::Granted) => Answer::Granted,
+        Ok(BidAnswer::Finished) => Answer::Finished,
+        Ok(BidAnswer::Busy { device }) => Answer::Busy(device as u64),
+        Ok(BidAnswer::Held { rank }) => Answer::Held(rank as u64),
+        Err(refused) => Answer::Refused(number_and_place(refused)),
+    }
+}
