@@ -1,0 +1,445 @@
+"""The tools for authors: python3 tests/test_words.py [PRINTER]. Without a printer, what needs the real one is left out."""
+import os
+import re
+import signal
+import struct
+import subprocess
+import sys
+import tempfile
+import unittest
+from collections import namedtuple
+from unittest import mock
+
+ROOT = os.path.dirname(os.path.dirname(os.path.abspath(__file__)))
+TOOLS = os.path.join(ROOT, "tools")
+sys.path.insert(0, TOOLS)
+
+import plan  # noqa: E402
+import set_text  # noqa: E402
+import words  # noqa: E402
+
+PRINTER = os.path.abspath(sys.argv[1]) if len(sys.argv) > 1 else None
+EXAMPLE_A = os.path.join(ROOT, "examples", "a.words")
+EXAMPLE_D = os.path.join(ROOT, "examples", "d.words")
+
+# Desk examples a and d of docs/SCOPE.md, word by word, and the plan of a.
+A = "10000001 10000001 20000000 30000000 30000001 40000001 40000000 20000000 30000001 30000000 40000000 40000001 5000000C"
+D = """10000001 10000001 10000001 20000000 30000002 30000000 40000002 30000001 40000001 40000000
+       20000000 30000001 30000002 40000002 30000000 40000000 40000001 50000011"""
+A_PLAN = "60000000 80000103 80010202 60000001 80000202 80010103 70000000 80000101 80010101 90000006 5000000A"
+
+# The limits of a set, and how many refusals there are.
+DEVICES, TASKS, ACTIONS, WORDS, REFUSALS = 16, 8, 255, 4096, 21
+
+Ended = namedtuple("Ended", "status output said")
+
+
+def words_in(text):
+    return [int(word, 16) for word in text.split()]
+
+
+def bytes_in(text):
+    return struct.pack("<%dI" % len(text.split()), *words_in(text))
+
+
+def lines_in(text):
+    return "".join(word + "\n" for word in text.split()).encode()
+
+
+class Case(unittest.TestCase):
+    def setUp(self):
+        folder = tempfile.TemporaryDirectory()
+        self.addCleanup(folder.cleanup)
+        self.folder = folder.name
+
+    def file(self, data, name="x.words"):
+        path = os.path.join(self.folder, name)
+        with open(path, "wb") as file:
+            file.write(data.encode() if isinstance(data, str) else data)
+        return path
+
+    def kept(self, name):
+        with open(os.path.join(self.folder, name), "rb") as file:
+            return file.read()
+
+    def here(self, tool, *arguments):
+        """A tool's main in this process, which is faster."""
+        output, said = [], []
+        with mock.patch.multiple(tool, put=output.append, say=lambda program, message: said.append("%s: %s\n" % (program, message))):
+            with mock.patch.object(sys, "argv", [tool.PROGRAM, *arguments]):
+                try:
+                    status = tool.main()
+                except set_text.Complaint as complaint:
+                    status = 2
+                    said.append("%s: %s\n" % (tool.PROGRAM, complaint))
+        return Ended(status, b"".join(output), "".join(said))
+
+    def program(self, tool, *arguments, redirect="", data=b""):
+        """A tool as a program, its inputs and outputs redirected by the shell, which can close them."""
+        command = [sys.executable, os.path.join(TOOLS, tool.PROGRAM), *arguments]
+        ended = subprocess.run(["sh", "-c", '"$@" ' + redirect, "sh", *command], input=data, stdout=subprocess.PIPE, stderr=subprocess.PIPE, timeout=60)
+        return Ended(ended.returncode, ended.stdout, ended.stderr.decode())
+
+    def assert_complaint(self, ended, *parts, output=b""):
+        """Status 2, and one line on standard error; on standard output nothing, or only what the printer printed."""
+        self.assertEqual((ended.status, ended.output), (2, output), ended.said)
+        self.assertRegex(ended.said, r"\A(words|plan)\.py: .+\n\Z")
+        for part in parts:
+            self.assertIn(part, ended.said)
+
+
+class Reading(Case):
+    """The text's form."""
+
+    def words(self, data):
+        return [word.value for word in set_text.read_text(self.file(data)).words]
+
+    def complaint(self, data):
+        path = self.file(data)
+        with self.assertRaises(set_text.Complaint) as raised:
+            set_text.read_text(path)
+        return str(raised.exception).replace(path, "FILE")
+
+    def test_examples(self):
+        for path, expected in ((EXAMPLE_A, A), (EXAMPLE_D, D)):
+            text = set_text.read_text(path)
+            self.assertEqual([word.value for word in text.words], words_in(expected))
+            self.assertEqual(text.warnings, [])
+
+    def test_examples_of_the_page(self):
+        """The page for authors writes example a in both ways."""
+        with open(os.path.join(ROOT, "docs", "AUTHORS.md"), encoding="utf-8") as file:
+            page = file.read()
+        blocks = [block for block in re.findall(r"(?:^    .*\n)+", page, re.M) if re.match(r"    (10000001|DEVICE)", block)]
+        self.assertEqual(len(blocks), 2)
+        for block in blocks:
+            self.assertEqual(self.words(block), words_in(A))
+
+    def test_names(self):
+        text = "DEVICE 1\nDEVICE 8\nTASK\nCLAIM 0\nCLAIM 10\nRELEASE 00010\nRELEASE 0\nEND\n"
+        self.assertEqual(self.words(text), words_in("10000001 10000008 20000000 30000000 3000000A 4000000A 40000000 50000007"))
+        self.assertEqual(self.words(text.lower()), self.words(text))
+
+    def test_fields_that_a_set_cannot_have(self):
+        self.assertEqual(self.words("DEVICE 9\nCLAIM 268435455\n"), words_in("10000009 3FFFFFFF"))
+
+    def test_end_counts_words(self):
+        """Not lines; and each END for itself."""
+        self.assertEqual(self.words("# one\n\nTASK # two\nEND\n# three\nEND"), words_in("20000000 50000001 50000002"))
+
+    def test_comments_and_blank_lines(self):
+        text = "# whole line\n\n  # indented\n10000001 behind a word\n\t10000001# 20000000\n1000000a # twice # here\n \nTASK#here\nDEVICE 1#here\n"
+        self.assertEqual(self.words(text), words_in("10000001 10000001 1000000A 20000000 10000001"))
+
+    def test_line_ends_and_encodings(self):
+        for data in (b"20000000\r\n50000001\r\n", b"20000000\n50000001", b"\xef\xbb\xbf20000000\n50000001\n", b"20000000 f\xfcr\nEND # \xff\xfe\n", "TASK # für\nEND\n".encode()):
+            self.assertEqual(self.words(data), words_in("20000000 50000001"), data)
+
+    def test_lines_of_words(self):
+        text = set_text.read_text(self.file("# one\r\nTASK\x0c\r\n\r\nEND"))
+        self.assertEqual([word.line for word in text.words], [2, 4])
+
+    def test_end_with_a_count_of_its_own(self):
+        text = set_text.read_text(self.file("TASK\n\n50000007 END\n50000002\nEND\n"))
+        self.assertEqual([word.value for word in text.words], words_in("20000000 50000007 50000002 50000003"))
+        self.assertEqual([warning.split("x.words")[1] for warning in text.warnings], [":3: warning: END counts 7 words, but 1 stand before it"])
+
+    def test_wrong_lines(self):
+        """A text, the line with the fault, and what the complaint must say."""
+        digits = "1" * 5000
+        for text, line, part in (
+            ("2000000", 1, "'2000000' has 7"),
+            ("TASK\n\n# x\n200000000", 4, "'200000000' has 9"),
+            ("TASK\n" + digits, 2, "has 5000"),
+            ("0x20000000", 1, "'0x20000000' is no word"),
+            ("2000000O", 1, "'2000000O' is no word"),
+            ("-2000000", 1, "'-2000000' is no word"),
+            ("2000_000", 1, "'2000_000' is no word"),
+            ("２０００００００", 1, "'２０００００００' is no word"),
+            ("claims 0", 1, "'claims' is no word"),
+            ("x" * 5000, 1, "'" + "x" * set_text.MAX_SHOWN + "..' is no word"),
+            ("a\x1b[31mb\x07", 1, "'a\\x1b[31mb\\x07' is no word"),
+            ("20000000 50000001", 1, "'50000001' is a second word"),
+            ("CLAIM", 1, "a device's number is missing behind CLAIM"),
+            ("DEVICE # 1", 1, "the number of tasks that may hold it is missing behind DEVICE"),
+            ("RELEASE x", 1, "'x' is no number"),
+            ("CLAIM -1", 1, "'-1' is no number"),
+            ("CLAIM ١", 1, "'١' is no number"),
+            ("CLAIM A", 1, "'A' is no number"),
+            ("CLAIM 268435456", 1, "'268435456' is too large"),
+            ("CLAIM " + digits, 1, "is too large"),
+            ("DEVICE 1 radio", 1, "'radio' can't stand behind DEVICE"),
+            ("TASK 0", 1, "'0' can't stand behind TASK"),
+            ("TASK\nEND 1", 2, "'1' can't stand behind END"),
+        ):
+            complaint = self.complaint(text)
+            self.assertTrue(complaint.startswith("FILE:%d: " % line), complaint)
+            self.assertIn(part, complaint)
+            self.assertLess(len(complaint), 200)
+
+    def test_texts_without_a_word(self):
+        for text in ("", "\n", "# only\n\n# comments\n"):
+            self.assertEqual(self.complaint(text), "FILE: there is no word in it")
+
+    def test_no_text(self):
+        self.assertIn("FILE: this is no text", self.complaint(bytes_in(A)))
+        self.assertIn("FILE: this is no text", self.complaint("TASK\nEND\n".encode("utf-16")))
+        self.assertIn("FILE: over 1048576 bytes", self.complaint(b"# " * set_text.MAX_BYTES))
+        self.assertIn("FILE:1: ", self.complaint(bytes(range(1, 256))))
+
+
+class Words(Case):
+    """words.py."""
+
+    def test_bytes(self):
+        with open(EXAMPLE_A, "rb") as file:
+            text = file.read()
+        self.assertEqual(self.program(words, EXAMPLE_A), Ended(0, bytes_in(A), ""))
+        self.assertEqual(self.program(words, "-", data=text), Ended(0, bytes_in(A), ""))
+
+    def test_more_than_a_pipe_holds(self):
+        self.assertEqual(self.program(words, "-", data=b"20000000\n" * 50000), Ended(0, b"\0\0\0\x20" * 50000, ""))
+
+    def test_wrong_count_is_told_and_taken(self):
+        ended = self.program(words, "-", data=b"20000000\n50000002\n")
+        self.assertEqual(ended, Ended(0, bytes_in("20000000 50000002"), "words.py: standard input:2: warning: END counts 2 words, but 1 stand before it\n"))
+
+    def test_wrong_line(self):
+        path = self.file("TASK\nEND.\n")
+        self.assert_complaint(self.program(words, path), path + ":2: 'END.' is no word")
+        self.assert_complaint(self.program(words, "-", data=b"\n\n1"), "standard input:3: ")
+
+    def test_files_that_cannot_be_read(self):
+        for path, why in ((os.path.join(self.folder, "none"), "No such file"), (self.folder, "Is a directory"), ("/dev/zero", "no text"), ("", "No such file")):
+            self.assert_complaint(self.here(words, path), path + ": ", why)
+        self.assert_complaint(self.program(words, self.folder), "Is a directory")
+
+    def test_one_line_for_any_name(self):
+        for name, said in ((b"a\nb", "a\\nb"), (b"\xff", "\\udcff")):
+            path = os.fsdecode(os.path.join(os.fsencode(self.folder), name))
+            self.assert_complaint(self.program(words, path), said + ": No such file")
+
+    def test_outputs_that_fail(self):
+        for redirect, why in ((">&-", "it is closed"), ("> /dev/full", "No space left")):
+            for arguments in ([EXAMPLE_A], ["--help"]):
+                self.assert_complaint(self.program(words, *arguments, redirect=redirect), "standard output: ", why)
+
+    def test_reader_that_goes_away(self):
+        read_end, write_end = os.pipe()
+        os.close(read_end)
+        ended = subprocess.run([sys.executable, os.path.join(TOOLS, "words.py"), EXAMPLE_A], stdout=write_end, stderr=subprocess.PIPE, timeout=60)
+        os.close(write_end)
+        self.assertEqual((ended.returncode, ended.stderr), (2, b"words.py: standard output: Broken pipe\n"))
+
+    def test_input_that_does_not_wait(self):
+        """A read that fails half way is no end of the text."""
+        read_end, write_end = os.pipe()
+        os.set_blocking(read_end, False)
+        os.write(write_end, b"TASK\nEND\n")
+        ended = subprocess.run([sys.executable, os.path.join(TOOLS, "words.py"), "-"], stdin=read_end, stdout=subprocess.PIPE, stderr=subprocess.PIPE, timeout=60)
+        os.close(read_end)
+        os.close(write_end)
+        self.assert_complaint(Ended(ended.returncode, ended.stdout, ended.stderr.decode()), "standard input: Resource temporarily unavailable")
+
+    def test_closed_input_and_error(self):
+        self.assert_complaint(self.program(words, "-", redirect="<&-"), "standard input: Bad file descriptor")
+        for redirect in ("2>&-", "2> /dev/full"):
+            self.assertEqual(self.program(words, self.folder, redirect=redirect), Ended(2, b"", ""))
+
+    def test_where(self):
+        path = self.file("# x\n10000001 device\n\n  TASK # \x1b\nEND\n")
+        for index, said in (("0", ":2: 10000001 device"), ("1", ":4: TASK # \\x1b"), ("002", ":5: END")):
+            self.assertEqual(self.here(words, "--where", index, path), Ended(0, (path + said + "\n").encode(), ""))
+        self.assert_complaint(self.here(words, "--where", "3", path), "no word has the index 3: the last one has 2")
+        for index in ("x", "", "1" * 5000, "١"):
+            self.assert_complaint(self.here(words, "--where", index, path), "is no word's index")
+
+    def test_usage(self):
+        for arguments in ([], ["a", "b"], ["--unknown", "a"], ["--wher", "0", "a"], ["--where"], ["a\nb", "c\nd"]):
+            self.assert_complaint(self.here(words, *arguments), "; --help says how it is used")
+        self.assert_complaint(self.program(words), "; --help says how it is used")
+        ended = self.program(words, "--help")
+        self.assertEqual((ended.status, ended.said), (0, ""))
+        self.assertIn(b"usage: words.py", ended.output)
+
+
+class Plans(Case):
+    """plan.py over printers that print what a test wants."""
+
+    def printer(self, output, ending="exit 0"):
+        """A program that keeps its input and prints this."""
+        self.file(output, "output")
+        path = self.file('#!/bin/sh\ncd "%s"\ncat > input\ncat output\n%s\n' % (self.folder, ending), "printer")
+        os.chmod(path, 0o755)
+        return path
+
+    def plan(self, output, *arguments, ending="exit 0"):
+        return self.here(plan, "--printer", self.printer(output, ending), *arguments)
+
+    def test_whole_plans(self):
+        for output in (b"50000000\n", lines_in(A_PLAN)):
+            self.assertEqual(self.plan(output, EXAMPLE_A), Ended(0, output, ""))
+            self.assertEqual(self.kept("input"), bytes_in(A))
+
+    def test_as_a_program(self):
+        printer = self.printer(lines_in(A_PLAN))
+        self.assertEqual(self.program(plan, "--printer", printer, EXAMPLE_A), Ended(0, lines_in(A_PLAN), ""))
+        self.assertEqual(self.program(plan, "--printer", printer, EXAMPLE_A, redirect="2>&- <&-"), Ended(0, lines_in(A_PLAN), ""))
+        refusal = self.program(plan, "--printer", self.printer("refused 4 at 1\n"), "-", data=b"TASK\n\n60000000\n")
+        self.assertEqual(refusal, Ended(1, b"refused 4 at 1\n", "plan.py: standard input:3: %s\n" % plan.sentence(4)))
+        self.assert_complaint(self.program(plan, "--printer", self.printer(b"6000"), EXAMPLE_A), "neither", output=b"6000")
+
+    def test_outputs_that_are_neither(self):
+        whole = lines_in(A_PLAN)
+        cut = [whole[:length] for length in (0, 4, 9, 90, len(whole) - 1)]
+        others = [b"\n", b"50000001\n", b"40000000\n", whole + b"\n", whole + whole, whole.lower(), b"x" + whole[1:], whole.replace(b"\n", b"\r\n")]
+        refusals = [b"refused 8 at 3", b"refused 8 at \n", b"refused 8 at 3\n\n", b"refused 8 at 3\n50000001\n", b" refused 8 at 3\n", b"refused 8 at 3\nrefused 8 at 3\n"]
+        for output in cut + others + refusals:
+            self.assert_complaint(self.plan(output, EXAMPLE_A), "a.words: what the printer printed is neither", output=output)
+
+    def test_printers_that_fail(self):
+        self.assert_complaint(self.plan(b"50000000\n", EXAMPLE_A, ending="exit 3"), "ended with status 3", output=b"50000000\n")
+        self.assert_complaint(self.plan(b"50000000\n", EXAMPLE_A, ending="kill -9 $$"), "ended with status %d" % -signal.SIGKILL, output=b"50000000\n")
+        self.assert_complaint(self.here(plan, "--printer", self.folder, EXAMPLE_A), self.folder + ": Permission denied")
+        self.assert_complaint(self.here(plan, "--printer", self.file("x", "text"), EXAMPLE_A), "Permission denied")
+        self.assert_complaint(self.here(plan, "--printer", os.path.join(self.folder, "none"), EXAMPLE_A), "none: No such file")
+
+    def test_printer_that_reads_nothing(self):
+        path = self.file("#!/bin/sh\necho 50000000\n", "printer")
+        os.chmod(path, 0o755)
+        self.assertEqual(self.here(plan, "--printer", path, self.file(b"20000000\n" * 50000)), Ended(0, b"50000000\n", ""))
+
+    def test_printers_own_complaint(self):
+        """It stands before that of plan.py."""
+        printer = self.printer(b"", ending="echo 'printer: it cannot be read' >&2")
+        ended = self.program(plan, "--printer", printer, EXAMPLE_A)
+        self.assertEqual((ended.status, ended.output, ended.said.splitlines()[0]), (2, b"", "printer: it cannot be read"))
+
+    def test_refusals_by_line(self):
+        path = self.file("# one\nDEVICE 1\n\nTASK\nCLAIM 0\n# six\nCLAIM 0\nEND\n")
+        for output, said in (
+            (b"refused 8 at 3\n", ":7: the task claims a device that it holds already"),
+            (b"refused 12 at 4\n", ":8: " + plan.sentence(12)),
+            (b"refused 8 at 5\n", ": word 5: the task claims a device that it holds already"),
+            (b"refused 11 at 3\n", ": " + plan.sentence(11)),
+            (b"refused 14 at 3\n", ": " + plan.sentence(14)),
+            (b"refused 99 at 3\n", ": refusal 99, for which %s has no sentence" % plan.HEADER),
+        ):
+            self.assertEqual(self.plan(output, path), Ended(1, output, "plan.py: " + path + said + "\n"))
+
+    def test_which_places_are_words(self):
+        text = set_text.Text("x", [set_text.Word(0, line) for line in range(10, 40)], [], [])
+        at_a_line = [number for number in range(1, REFUSALS + 1) if plan.line_of(text, number, 5) == "x:15"]
+        self.assertEqual(at_a_line, [2, 3, 4, 5, 6, 7, 8, 9, 10, 12])
+
+    def test_sentences(self):
+        """Each refusal has one of its own out of the header."""
+        sentences = [plan.sentence(number) for number in range(1, REFUSALS + 1)]
+        self.assertEqual(len(set(sentences)), REFUSALS)
+        self.assertEqual([text for text in sentences if "no sentence" in text], [])
+        self.assertEqual(sentences[0], "the set is empty")
+        self.assertEqual(sentences[-1], "the route has more steps than its slice has bytes")
+        for number in (0, REFUSALS + 1):
+            self.assertIn("no sentence", plan.sentence(number))
+
+    def test_sentences_in_any_order(self):
+        """By their numbers; other functions have other sentences."""
+        functions = [
+            'char *arbiter_kind_text(uint32_t kind) {\n    case ARBITER_X: return "a kind";\n}\n',
+            'char *arbiter_refusal_text(uint32_t refusal)\n{\n    case ARBITER_Y: return "twelve";\n    case ARBITER_X:\n        return "one";\n}\n',
+            'char *another(uint32_t kind) {\n    case ARBITER_Z: return "two";\n}\n',
+        ]
+        header = self.file("#define ARBITER_Y 12 /* 1 */\n#define ARBITER_X 1\n#define ARBITER_Z 2\n" + "".join(functions))
+        with mock.patch.object(plan, "HEADER", header):
+            self.assertEqual((plan.sentence(1), plan.sentence(12)), ("one", "twelve"))
+            self.assertIn("no sentence", plan.sentence(2))
+
+    def test_header_that_cannot_be_read(self):
+        for header in (os.path.join(self.folder, "none"), self.folder, self.file(b"\xff\xfe#define", "header")):
+            with mock.patch.object(plan, "HEADER", header):
+                self.assertEqual(plan.sentence(8), "refusal 8, for which %s has no sentence" % header)
+
+    def test_bytes(self):
+        for data in (bytes_in(A), b"", b"\0\0\0", b"\xff" * 20000):
+            path = self.file(data, "x.set")
+            self.assertEqual(self.plan(b"refused 4 at 7\n", "--bytes", path), Ended(1, b"refused 4 at 7\n", "plan.py: %s: word 7: %s\n" % (path, plan.sentence(4))))
+            self.assertEqual(self.kept("input"), data)
+        self.assertEqual(self.plan(b"refused 2 at 4096\n", "--bytes", "/dev/zero").status, 1)
+
+    def test_texts_and_files_that_are_wrong(self):
+        """The printer isn't run."""
+        for arguments, part in (
+            ([self.file("TASK\nEND 1\n")], "x.words:2: '1' can't stand behind END"),
+            ([self.file(bytes_in(A), "x.set")], "x.set: this is no text"),
+            ([self.file("", "empty")], "empty: there is no word in it"),
+            ([self.folder], "Is a directory"),
+            (["--bytes", self.folder], "Is a directory"),
+            ([], "; --help says how it is used"),
+            (["--byte", "x"], "; --help says how it is used"),
+        ):
+            self.assert_complaint(self.plan(b"50000000\n", *arguments), part)
+        self.assertFalse(os.path.exists(os.path.join(self.folder, "input")))
+
+    def test_warning_of_a_wrong_count(self):
+        path = self.file("TASK\n50000002\n")
+        warning = "plan.py: %s:2: warning: END counts 2 words, but 1 stand before it\n" % path
+        self.assertEqual(self.plan(b"refused 6 at 1\n", path), Ended(1, b"refused 6 at 1\n", warning + "plan.py: %s:2: %s\n" % (path, plan.sentence(6))))
+
+    def test_outputs_that_fail(self):
+        printer = self.printer(lines_in(A_PLAN))
+        for redirect in (">&-", "> /dev/full"):
+            self.assert_complaint(self.program(plan, "--printer", printer, EXAMPLE_A, redirect=redirect), "standard output: ")
+        self.assert_complaint(self.program(plan, "--help", redirect="> /dev/full"), "standard output: ")
+
+
+@unittest.skipUnless(PRINTER, "no printer was named")
+class RealPrinter(Case):
+    """plan.py over the printer itself: a plan, and each refusal that a set can bring, at its line."""
+
+    def plan(self, *arguments):
+        return self.here(plan, "--printer", PRINTER, *arguments)
+
+    def assert_refused(self, ended, number, place, where):
+        self.assertEqual((ended.status, ended.output.decode()), (1, "refused %d at %d\n" % (number, place)))
+        self.assertEqual(ended.said.splitlines()[-1], "plan.py: %s: %s" % (where, plan.sentence(number)))
+
+    def test_plans(self):
+        self.assertEqual(self.plan(EXAMPLE_A), Ended(0, lines_in(A_PLAN), ""))
+        self.assertEqual(self.plan(EXAMPLE_D).status, 0)
+        self.assertEqual(self.plan("--bytes", self.file(bytes_in("20000000 50000001"))), Ended(0, b"50000000\n", ""))
+
+    def test_refusals(self):
+        pair = "CLAIM 0\nRELEASE 0\n"
+        long_task = "TASK\n" + pair * 127
+        for number, place, line, text in (
+            (2, WORDS, WORDS + 3, "# x\n\n" + "TASK\n" * (WORDS + 1)),
+            (3, 2, 4, "TASK\nEND\n# x\nTASK\n"),
+            (4, 1, 3, "TASK\n\n60000000\n"),
+            (5, 0, 2, "\nCLAIM 0\n"),
+            (6, 1, 2, "TASK\n50000002\n"),
+            (6, 0, 1, "DEVICE 9\n"),
+            (7, DEVICES, DEVICES + 1, "DEVICE 1\n" * (DEVICES + 1)),
+            (7, TASKS, TASKS + 1, "TASK\n" * (TASKS + 1)),
+            (7, 2 + ACTIONS, 3 + ACTIONS, "DEVICE 1\nTASK\n" + pair * 128),
+            (8, 3, 6, "# x\nDEVICE 1\nTASK\nCLAIM 0\n\nCLAIM 0\n"),
+            (9, 2, 3, "DEVICE 1\nTASK\nRELEASE 0\n"),
+            (10, 3, 4, "DEVICE 1\nTASK\nCLAIM 0\nEND\n"),
+            (12, 514, 516, "# x\nDEVICE 1\n" + long_task * 2 + "TASK\n" + pair + "END\n"),
+        ):
+            path = self.file(text)
+            self.assert_refused(self.plan(path), number, place, "%s:%d" % (path, line))
+
+    def test_refusals_without_a_line(self):
+        path = self.file("TASK\n# x\n")
+        self.assert_refused(self.plan(path), 11, 1, path)
+        path = self.file("DEVICE 1\n" + ("TASK\n" + "CLAIM 0\nRELEASE 0\n" * 43) * 2 + "TASK\n" * 6 + "END\n")
+        self.assert_refused(self.plan(path), 14, 16384, path)
+
+    def test_refusals_of_bytes(self):
+        for number, place, where, data in ((1, 0, "", b""), (15, 1, "", b"\0\0\0\x20\0"), (2, WORDS, ": word 4096", b"\0" * 16385), (4, 0, ": word 0", b"\0" * 4)):
+            path = self.file(data)
+            self.assert_refused(self.plan("--bytes", path), number, place, path + where)
+
+
+if __name__ == "__main__":
+    unittest.main(argv=sys.argv[:1])
