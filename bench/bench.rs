@@ -1,10 +1,12 @@
-// The proved library beside the yardstick, in one run on the same input: the best time of each, their ratio, and whether they agree. bench/run builds and runs it.
+// The proved library beside the yardstick, in one run on the same input: the best time of each, and whether they agree; and the stack that the library's calls
+// take. bench/run builds and runs it. It prints lines with tabs between, which bench/tables.py and bench/growth.py turn into the tables of docs/PERFORMANCE.md:
 //
-//     bench table FILE..      a table in Markdown: every call on each set
-//     bench growth FILE..     for each set file FAMILY-SIZE.set a line: family, size, states, plan words, and nanoseconds of both analyses, with tabs between
+//     bench calls FILE..      for each set and call: set, words, call, answer, and nanoseconds of both
+//     bench growth FILE..     for each set file FAMILY-SIZE.set: family, size, states, plan words, and nanoseconds of both analyses
+//     bench stack FILE..      for each call: its name, and the most bytes of stack that it took on any of the sets
 //
 // The two take turns, and the best of many turns counts: what else the machine does meanwhile only ever adds to a time. A turn is a batch of calls, as many as
-// take long enough for the clock.
+// take long enough for the clock. All sets are gone through several times, so that a minute in which the machine is slow spoils no best time.
 #[allow(dead_code)]
 #[path = "baseline.rs"]
 mod baseline;
@@ -12,13 +14,17 @@ mod baseline;
 #[path = "../hosts/rust/src/sys.rs"]
 mod sys;
 
+use std::arch::asm;
 use std::hint::black_box;
 use std::time::Instant;
 use sys::Answer;
 
+const UNWRITTEN: u8 = 0xFF; // fills a map slice before the analysis, as hosts do
+const MAP: usize = 65536; // bytes: fits every set
 const PLAN: usize = 400_000; // more words than any plan has
 const SHORT_PLAN: usize = 64;
-const TURNS: u128 = 600; // milliseconds that the two take turns for
+const PASSES: usize = 3; // how often the sets are gone through
+const TURNS: u128 = 250; // milliseconds that the two take turns for, each time
 
 // --- The yardstick's answers in the library's form, to compare them ---
 
@@ -48,7 +54,7 @@ fn text(answer: &Answer) -> String {
     match answer.kind {
         sys::REFUSED => format!("refused {}", answer.refusal),
         sys::ACCEPTED => "accepted".to_string(),
-        sys::PLANNED => format!("{} words", answer.value),
+        sys::PLANNED => format!("{} word{}", answer.value, if answer.value == 1 { "" } else { "s" }),
         sys::ROUTED => format!("{} steps", answer.value),
         _ => "restarted".to_string(),
     }
@@ -82,12 +88,15 @@ fn route(record: sys::Record, words: &[u32], map: &[u8], slice: &mut [u8]) -> An
 
 // --- Timing ---
 
-/// Nanoseconds of one call of each, both in turn, best of many.
-fn best_of(proved: impl FnMut(), yardstick: impl FnMut()) -> (f64, f64) {
-    best_within(TURNS, proved, yardstick)
+/// Nanoseconds of one call of each.
+type Times = (f64, f64);
+
+fn better(one: Times, other: Times) -> Times {
+    (one.0.min(other.0), one.1.min(other.1))
 }
 
-fn best_within(milliseconds: u128, mut proved: impl FnMut(), mut yardstick: impl FnMut()) -> (f64, f64) {
+/// Both in turn, best of many.
+fn best_of(mut proved: impl FnMut(), mut yardstick: impl FnMut()) -> Times {
     let time = |batch: u32, call: &mut dyn FnMut(u32)| -> f64 {
         let began = Instant::now();
         call(batch);
@@ -101,12 +110,18 @@ fn best_within(milliseconds: u128, mut proved: impl FnMut(), mut yardstick: impl
     let (mut best, mut other_best) = (f64::MAX, f64::MAX);
     let began = Instant::now();
     let mut turns = 0;
-    while turns < 30 || began.elapsed().as_millis() < milliseconds {
+    while turns < 30 || began.elapsed().as_millis() < TURNS {
         best = best.min(time(batch, &mut proved));
         other_best = other_best.min(time(batch, &mut yardstick));
         turns += 1;
     }
     (best, other_best)
+}
+
+/// A call on a set: what stands in its line before the times, and the best times.
+struct Line {
+    text: String,
+    times: Times,
 }
 
 struct Row<'a> {
@@ -115,45 +130,37 @@ struct Row<'a> {
 }
 
 impl Row<'_> {
-    fn print(&self, call: &str, answer: &str, times: (f64, f64), agree: bool) {
-        let (proved, yardstick) = times;
-        println!(
-            "| {} | {} | {call} | {answer} | {:.3} | {:.3} | {:.2} | {} |",
-            self.set,
-            self.words.len(),
-            proved / 1e3,
-            yardstick / 1e3,
-            proved / yardstick,
-            if agree { "yes" } else { "NO" }
-        );
+    fn line(&self, call: &str, answer: &str, times: Times, agree: bool) -> Line {
         if !agree {
             // A wrong answer's time is worth nothing.
+            eprintln!("bench: {}, {call}: the two differ", self.set);
             std::process::exit(1);
         }
+        Line { text: format!("{}\t{}\t{call}\t{answer}", self.set, self.words.len()), times }
     }
 
-    fn read(&self) {
+    fn read(&self) -> Line {
         let words = self.words;
         let answer = read(words);
         let other = baseline::read(words).map_or_else(refused, |set| plain(sys::ACCEPTED, set.grid as u64));
         let times = best_of(
             || {
-                black_box(read(black_box(words)));
+                let _ = black_box(read(black_box(words)));
             },
             || {
                 black_box(baseline::read(black_box(words))).ok();
             },
         );
-        self.print("read", &text(&answer), times, answer == other);
+        self.line("read", &text(&answer), times, answer == other)
     }
 
-    fn analyse(&self, room: usize) {
-        let (answer, agree, times) = analyses(self.words, room, TURNS);
-        self.print(if room == PLAN { "analyse" } else { "analyse, 64 words" }, &text(&answer), times, agree);
+    fn analyse(&self, room: usize) -> Line {
+        let (answer, agree, times) = analyses(self.words, room);
+        self.line(if room == PLAN { "analyse" } else { "analyse, slice of 64 words" }, &text(&answer), times, agree)
     }
 
     /// A list of bids from the start to the end, the same for both; the time is that of one bid on average. A refused set has one bid.
-    fn bids(&self, map: &[u8], tasks: &[usize]) {
+    fn bids(&self, map: &[u8], tasks: &[usize]) -> Line {
         let words = self.words;
         let fresh = unsafe { sys::arbiter_fresh() };
         let mut record = fresh;
@@ -170,7 +177,7 @@ impl Row<'_> {
             || {
                 let mut record = fresh;
                 for &task in black_box(tasks) {
-                    black_box(bid(&mut record, black_box(words), map, task));
+                    let _ = black_box(bid(&mut record, black_box(words), map, task));
                 }
             },
             || {
@@ -186,10 +193,10 @@ impl Row<'_> {
         } else {
             format!("{} granted, {} not yet", counts[sys::GRANTED as usize], counts[sys::BUSY as usize] + counts[sys::HELD as usize])
         };
-        self.print("bid", &answers, (proved / each, yardstick / each), agree);
+        self.line("bid", &answers, (proved / each, yardstick / each), agree)
     }
 
-    fn again(&self, end: sys::Record) {
+    fn again(&self, end: sys::Record) -> Line {
         let words = self.words;
         let mut record = end;
         let mut other = other_record(&end);
@@ -199,7 +206,7 @@ impl Row<'_> {
         let times = best_of(
             || {
                 let mut record = black_box(end);
-                black_box(again(&mut record, black_box(words)));
+                let _ = black_box(again(&mut record, black_box(words)));
                 black_box(&record);
             },
             || {
@@ -208,10 +215,10 @@ impl Row<'_> {
                 black_box(&record);
             },
         );
-        self.print("again", &text(&answer), times, agree);
+        self.line("again", &text(&answer), times, agree)
     }
 
-    fn route(&self, map: &[u8], actions: usize) {
+    fn route(&self, map: &[u8], actions: usize) -> Line {
         let words = self.words;
         let fresh = unsafe { sys::arbiter_fresh() };
         let other_fresh = other_record(&fresh);
@@ -221,27 +228,26 @@ impl Row<'_> {
         let agree = answer == other && slice == other_slice;
         let times = best_of(
             || {
-                black_box(route(fresh, black_box(words), map, &mut slice));
+                let _ = black_box(route(fresh, black_box(words), map, &mut slice));
             },
             || {
                 black_box(baseline::route(&other_fresh, black_box(words), map, &mut other_slice)).ok();
             },
         );
-        self.print("route", &text(&answer), times, agree);
+        self.line("route", &text(&answer), times, agree)
     }
 }
 
 /// Both analyses into slices of their own: the answer, whether they agree, and the times.
-fn analyses(words: &[u32], room: usize, milliseconds: u128) -> (Answer, bool, (f64, f64)) {
-    let (mut map, mut other_map) = (vec![0u8; 65536], vec![0u8; 65536]);
+fn analyses(words: &[u32], room: usize) -> (Answer, bool, Times) {
+    let (mut map, mut other_map) = (vec![UNWRITTEN; MAP], vec![UNWRITTEN; MAP]);
     let (mut plan, mut other_plan) = (vec![0u32; room], vec![0u32; room]);
     let answer = analyse(words, &mut map, &mut plan);
     let other = of_length(sys::PLANNED, baseline::analyse(words, &mut other_map, &mut other_plan));
     let agree = answer == other && map == other_map && plan == other_plan;
-    let times = best_within(
-        milliseconds,
+    let times = best_of(
         || {
-            black_box(analyse(black_box(words), &mut map, &mut plan));
+            let _ = black_box(analyse(black_box(words), &mut map, &mut plan));
         },
         || {
             black_box(baseline::analyse(black_box(words), &mut other_map, &mut other_plan)).ok();
@@ -274,38 +280,51 @@ fn name_of(file: &str) -> &str {
     file.rsplit('/').next().unwrap().trim_end_matches(".set")
 }
 
-fn table(files: &[String]) {
-    println!("| set | words | call | answer | proved, µs | yardstick, µs | ratio | agree |\n|---|---|---|---|---|---|---|---|");
-    for file in files {
-        let words = words_in(file);
-        let row = Row { set: name_of(file), words: &words };
-        row.analyse(PLAN);
-        row.analyse(SHORT_PLAN);
-        row.read();
-        let mut map = vec![0u8; 65536];
-        let mut plan = vec![0u32; PLAN];
-        match baseline::read(&words) {
-            Ok(set) => {
-                analyse(&words, &mut map, &mut plan);
-                let (tasks, end) = bids_to_the_end(&words, &map, &set);
-                row.bids(&map, &tasks);
-                row.again(sys::Record { positions: end.positions, grants: end.grants });
-                row.route(&map, set.len.iter().map(|&len| len as usize).sum());
-            }
-            Err(_) => row.bids(&map, &[0]),
+/// The map of a set, the tasks of bids that bring it to its end and the record there; of a refused set a map that nobody wrote, one bid and a fresh record.
+fn service(words: &[u32]) -> (Vec<u8>, Vec<usize>, sys::Record) {
+    let mut map = vec![UNWRITTEN; MAP];
+    let mut plan = vec![0u32; PLAN];
+    if analyse(words, &mut map, &mut plan).kind != sys::PLANNED {
+        return (map, vec![0], unsafe { sys::arbiter_fresh() });
+    }
+    let (tasks, end) = bids_to_the_end(words, &map, &baseline::read(words).unwrap());
+    (map, tasks, sys::Record { positions: end.positions, grants: end.grants })
+}
+
+/// Every call on one set.
+fn lines_of(file: &str) -> Vec<Line> {
+    let words = words_in(file);
+    let row = Row { set: name_of(file), words: &words };
+    let (map, tasks, end) = service(&words);
+    let mut lines = vec![row.analyse(PLAN), row.analyse(SHORT_PLAN), row.read(), row.bids(&map, &tasks)];
+    if let Ok(set) = baseline::read(&words) {
+        lines.push(row.again(end));
+        lines.push(row.route(&map, set.len.iter().map(|&len| len as usize).sum()));
+    }
+    lines
+}
+
+fn calls(files: &[String]) {
+    let pass = || files.iter().flat_map(|file| lines_of(file)).collect::<Vec<Line>>();
+    let mut best = pass();
+    for _ in 1..PASSES {
+        for (line, other) in best.iter_mut().zip(pass()) {
+            line.times = better(line.times, other.times);
         }
+    }
+    for Line { text, times: (proved, yardstick) } in best {
+        println!("{text}\t{proved:.2}\t{yardstick:.2}");
     }
 }
 
-/// Goes through the files three times, so that a minute in which the machine is slow spoils no size's best time.
 fn growth(files: &[String]) {
     let mut best = vec![(f64::MAX, f64::MAX); files.len()];
     let mut plan_words = vec![0; files.len()];
-    for _ in 0..3 {
+    for _ in 0..PASSES {
         for (at, file) in files.iter().enumerate() {
-            let (answer, agree, (proved, yardstick)) = analyses(&words_in(file), PLAN, TURNS / 2);
+            let (answer, agree, times) = analyses(&words_in(file), PLAN);
             assert!(agree, "{file}: the two differ");
-            best[at] = (best[at].0.min(proved), best[at].1.min(yardstick));
+            best[at] = better(best[at], times);
             plan_words[at] = answer.value;
         }
     }
@@ -317,13 +336,67 @@ fn growth(files: &[String]) {
     }
 }
 
+// --- Stack ---
+
+const STACK: usize = 1 << 20; // of the thread that everything runs in
+const PAINTED: usize = STACK - (128 << 10); // bytes below a call that are looked at; what stands above it takes far less than the rest
+const PAINT: u64 = 0xA5A5_A5A5_A5A5_A5A5;
+
+/// The bytes of stack that a call takes, its return address among them: down to the lowest one below this frame that has lost its paint.
+#[inline(never)]
+fn stack_of(call: impl FnOnce() -> Answer) -> usize {
+    let top: usize;
+    // Nothing lives below the stack pointer here: without `nostack` the compiler keeps nothing there.
+    unsafe {
+        asm!("mov {top}, rsp", "lea rdi, [rsp - {painted}]", "mov rcx, {words}", "rep stosq", top = out(reg) top, painted = const PAINTED, words = const PAINTED / 8,
+             in("rax") PAINT, out("rdi") _, out("rcx") _);
+    }
+    let answer = call();
+    let mut lowest = top - PAINTED;
+    while lowest < top && unsafe { (lowest as *const u64).read_volatile() } == PAINT {
+        lowest += 8;
+    }
+    let _ = black_box(answer);
+    assert!(lowest > top - PAINTED, "the call took all of the stack that is looked at");
+    top - lowest
+}
+
+fn stack(files: &[String]) {
+    let names = ["arbiter_analyse", "arbiter_read", "arbiter_bid", "arbiter_again", "arbiter_route"];
+    let mut most = [0; 5];
+    for file in files {
+        let words = &words_in(file)[..];
+        let (map, tasks, end) = service(words);
+        let mut taken = |call: usize, bytes: usize| most[call] = bytes.max(most[call]);
+        for room in [PLAN, SHORT_PLAN] {
+            let (mut map, mut plan) = (vec![UNWRITTEN; MAP], vec![0u32; room]);
+            taken(0, stack_of(|| analyse(words, &mut map, &mut plan)));
+        }
+        taken(1, stack_of(|| read(words)));
+        let mut record = unsafe { sys::arbiter_fresh() };
+        let mut steps = vec![0u8; words.len()];
+        taken(4, stack_of(|| route(record, words, &map, &mut steps)));
+        for task in tasks {
+            taken(2, stack_of(|| bid(&mut record, words, &map, task)));
+        }
+        let mut record = end;
+        taken(3, stack_of(|| again(&mut record, words)));
+    }
+    for (name, bytes) in names.iter().zip(most) {
+        println!("{name}\t{bytes}");
+    }
+}
+
 fn main() {
-    // On a stack of 1 MiB: the analysis needs some 300 KiB of it.
-    std::thread::Builder::new().stack_size(1 << 20).spawn(|| {
+    // Another version's structs could be laid out otherwise.
+    assert_eq!(unsafe { sys::arbiter_version() }, sys::VERSION, "the library's version");
+    let run = || {
         let arguments: Vec<String> = std::env::args().skip(1).collect();
         match arguments[0].as_str() {
             "growth" => growth(&arguments[1..]),
-            _ => table(&arguments[1..]),
+            "stack" => stack(&arguments[1..]),
+            _ => calls(&arguments[1..]),
         }
-    }).unwrap().join().unwrap();
+    };
+    std::thread::Builder::new().stack_size(STACK).spawn(run).unwrap().join().unwrap();
 }

@@ -1,5 +1,5 @@
 #!/usr/bin/env python3
-"""growth.py SVGFILE: reads the lines of `bench growth` on standard input, prints them as a table in Markdown, and draws them.
+"""growth.py SVGFILE: reads the lines of `bench growth` on standard input, prints the table of docs/PERFORMANCE.md, a row a family, and draws every size.
 
 A unit is a state or a plan word: what the analysis has to write. The slope is that of the straight line nearest to a family's points from 500 units on, in a
 drawing with both scales logarithmic: 1 where the time grows as the units do, 2 where it grows as their square. It needs Python's standard library only.
@@ -42,18 +42,19 @@ def yardstick(point):
     return point.yardstick
 
 
-def print_tables(families):
-    print("\n| family | size | states | plan words | proved, µs | yardstick, µs | ratio | proved, ns a unit | yardstick, ns a unit |")
-    print("|---|---|---|---|---|---|---|---|---|")
+def span(points, form, value):
+    """From the smallest size to the largest."""
+    return "%s to %s" % (form.format(value(points[0])), form.format(value(points[-1])))
+
+
+def print_table(families):
+    print("\n## Growth\n")
+    print("| family | sizes | states | ns a unit, smallest to largest, proved | yardstick | slope, proved | yardstick |")
+    print("|---|---|---|---|---|---|---|")
     for family, points in families.items():
-        for p in points:
-            print(
-                "| %s | %d | %d | %d | %.1f | %.1f | %.2f | %.1f | %.1f |"
-                % (family, p.size, p.states, p.words, p.proved / 1e3, p.yardstick / 1e3, p.proved / p.yardstick, p.proved / units(p), p.yardstick / units(p))
-            )
-    print("\n| family | slope, proved | slope, yardstick |\n|---|---|---|")
-    for family, points in families.items():
-        print("| %s | %.2f | %.2f |" % (family, slope(points, proved), slope(points, yardstick)))
+        sizes, states = span(points, "{}", lambda p: p.size), span(points, "{:,}", lambda p: p.states)
+        rates = [span(points, "{:.1f}", lambda p, time=time: time(p) / units(p)) for time in (proved, yardstick)]
+        print("| %s | %s | %s | %s | %s | %.2f | %.2f |" % (family, sizes, states, *rates, slope(points, proved), slope(points, yardstick)))
 
 
 class Panel:
@@ -150,5 +151,5 @@ for line in sys.stdin:
     family, *numbers = line.rstrip("\n").split("\t")
     size, states, words = (int(n) for n in numbers[:3])
     families.setdefault(family, []).append(Point(size, states, words, float(numbers[3]), float(numbers[4])))
-print_tables(families)
+print_table(families)
 draw(families, sys.argv[1])

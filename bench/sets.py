@@ -111,7 +111,7 @@ os.makedirs(os.path.join(sys.argv[1], "growth"), exist_ok=True)
 
 # --- The table ---
 
-# Example a of document 01.
+# Example a of docs/SCOPE.md.
 save("a", [1, 1], [[claim(0), claim(1), release(1), release(0)], [claim(1), claim(0), release(0), release(1)]])
 # 15,625 states.
 save("philosophers6", *philosophers(6))

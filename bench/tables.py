@@ -1,0 +1,45 @@
+#!/usr/bin/env python3
+"""tables.py calls|stack: reads the lines of `bench calls` or `bench stack` on standard input and prints them as the tables of docs/PERFORMANCE.md."""
+import sys
+
+CALLS = ("read", "bid", "again", "route")
+
+
+def print_row(*cells):
+    print("| %s |" % " | ".join(cells))
+
+
+def print_head(*cells):
+    print_row(*cells)
+    print("|" + "---|" * len(cells))
+
+
+def print_analyses(rows):
+    print_head("set", "plan", "proved, µs", "yardstick, µs", "ratio")
+    for name, _, call, answer, proved, yardstick in rows:
+        if call.startswith("analyse"):
+            print_row(name + call[len("analyse"):], answer, "%.1f" % (proved / 1e3), "%.1f" % (yardstick / 1e3), "%.2f" % (proved / yardstick))
+
+
+def print_calls(rows):
+    """A row a set: each call's ratio, with its time in brackets. A set that is refused has no again and no route."""
+    print_head("set", "words", *CALLS)
+    sets = {}
+    for name, words, call, _, proved, yardstick in rows:
+        sets.setdefault((name, words), {})[call] = "%.2f (%.2f)" % (proved / yardstick, proved / 1e3)
+    for (name, words), cells in sets.items():
+        print_row(name, words, *(cells.get(call, "") for call in CALLS))
+
+
+lines = [line.rstrip("\n").split("\t") for line in sys.stdin]
+if sys.argv[1] == "calls":
+    measured = [(*line[:4], float(line[4]), float(line[5])) for line in lines]
+    print("## The analysis\n")
+    print_analyses(measured)
+    print("\n## The calls in service\n")
+    print_calls(measured)
+else:
+    print("\n## Stack\n")
+    print_head("call", "most measured on the sets above, bytes")
+    for call, taken in lines:
+        print_row("`%s`" % call if call.startswith("arbiter_") else call, "{:,}".format(int(taken)))
