@@ -157,8 +157,8 @@ ARBITER_ASSERT(size_of_length, sizeof(size_t) == 8);
 
 /* ARBITER_LEND(pointer) is the pointer itself, with its own type; or, if it is NULL, an address to lend for a slice of length 0: non-null and
  * aligned, as the calls ask. An empty std::vector or span may give NULL. It is an address in the first page, where nothing lies, so that a NULL
- * lent by mistake with another length still ends in a fault. The argument is evaluated once. C needs __typeof__ for it, which GCC, Clang and
- * their kin have in every mode. */
+ * lent by mistake with another length still ends in a fault. The argument has a pointer's type (in C++, nullptr by itself has none) and is
+ * evaluated once. C needs __typeof__ for it, which GCC, Clang and their kin have in every mode. */
 #ifdef __cplusplus
 extern "C++" {
 template <typename Element> inline Element *arbiter_lend(Element *pointer) {
@@ -391,7 +391,7 @@ static inline const char *arbiter_refusal_text(uint32_t refusal) {
     case ARBITER_MAP_TOO_SHORT: return "the map slice is shorter than the set's number of states";
     case ARBITER_PLAN_TOO_SHORT: return "the plan has more words than its slice";
     case ARBITER_BYTES_NOT_WORDS: return "the number of bytes isn't a multiple of 4: the file was cut, or isn't a set";
-    case ARBITER_BAD_RECORD: return "the record doesn't fit the set and its map: it was damaged, or is another set's";
+    case ARBITER_BAD_RECORD: return "the record doesn't fit the set and its map: it was damaged, or is another set's, or no analysis wrote the map";
     case ARBITER_NO_SUCH_TASK: return "the set has no task of this number";
     case ARBITER_BAD_MAP_BYTE: return "the map isn't the one made for this set: it was damaged, or is another set's";
     case ARBITER_NOT_AT_END: return "not every task is finished";

@@ -1,8 +1,8 @@
 /* serve SETFILE: reads a set (four bytes a word, lowest first), analyses it, serves rounds of bids until every task is finished, starts
- * anew and prints the route from the start. The same program in Rust is rust/examples/serve.rs; both print the same.
+ * anew and prints the route from the start. The same program in Rust is rust/examples/serve.rs, in Python python/serve.py; all print the same.
  *
  * Exit status: 0; 1 if a call was refused, with the refusal as the last line; 2 if the library isn't of the header's version, the file can't be
- * read or memory is out. */
+ * read, standard output not written, or memory is out. */
 #include "arbiter.h"
 
 #include <stdbool.h>
@@ -15,9 +15,15 @@ static void stop(const char *why) {
     exit(2);
 }
 
+/* Ends with this status, if all that was printed is written. */
+static void end(int status) {
+    if (fflush(stdout) != 0 || ferror(stdout)) stop("can't write standard output");
+    exit(status);
+}
+
 static void refused(uint32_t refusal, uint64_t place) {
     printf("refused %u at %llu: %s\n", (unsigned)refusal, (unsigned long long)place, arbiter_refusal_text(refusal));
-    exit(1);
+    end(1);
 }
 
 /* The answer's value, if the call wasn't refused. */
@@ -125,5 +131,5 @@ int main(int arguments, char **argument) {
     free(route);
     free(plan);
     free(map);
-    return 0;
+    end(0);
 }

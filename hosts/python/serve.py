@@ -3,6 +3,7 @@
 "Other languages"). It prints what serve.c prints, which says what it does, and ends with the same status.
 """
 import ctypes
+import os
 import sys
 from ctypes import POINTER, c_char_p, c_size_t, c_uint8, c_uint32, c_uint64
 
@@ -135,7 +136,18 @@ def serve(library, path):
     print("route:", *route[:steps])
 
 
-if __name__ == "__main__":
+def main():
     if len(sys.argv) != 3:
         stop("usage: serve.py LIBRARY SETFILE")
-    serve(loaded(sys.argv[1]), sys.argv[2])
+    try:
+        try:
+            serve(loaded(sys.argv[1]), sys.argv[2])
+        finally:
+            sys.stdout.flush()
+    except (OSError, AttributeError) as problem:  # no such library or output, or a library without these calls
+        os.dup2(os.open(os.devnull, os.O_WRONLY), 1)  # else Python tries again to write what is left, and complains
+        stop(problem)
+
+
+if __name__ == "__main__":
+    main()

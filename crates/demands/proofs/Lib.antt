@@ -33,5 +33,6 @@ pub mod ServiceHolds
 pub mod RouteDemandHolds
 pub mod RefusalsHold
 pub mod PrintedNumbers
+pub mod PlanWordsFit
 pub mod PrinterHolds
 pub mod HostsHold

@@ -35,7 +35,7 @@ pub record OfMap (words map : List ℕ) : Type 0 where
   pub finished : (rs : List (List ℕ)) → ((r : List ℕ) → List·Memᴰ r rs → IsRound (length (setIn words .tasks)) r)
       → sum (lengthsOf (setIn words)) ≤ length rs → stateAfter words map (roundCalls rs) ≡ lengthsOf (setIn words)
 
--- what holds besides of the plan p that an accepted analysis leaves
+-- what holds besides of the set's plan p, which an accepted analysis leaves in its slice
 pub record OfPlan (words m : List ℕ) (p : Plan) : Type 0 where
   -- a permitted state lies in an unsafe box exactly if no sequence of allowed steps leads from it to the end
   pub unsafe-box : (x : State) → InGrid (lengthsOf (setIn words)) x → permitted (setIn words) x ≡ true

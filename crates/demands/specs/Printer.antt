@@ -5,13 +5,13 @@ use mathlib.Core.Path.{_≡_}
 use mathlib.Core.Logic.{_⊎_}
 use mathlib.Core.Bool.{cond}
 use mathlib.Core.List.{List, [], _∷_, _++_, map, flatten}
-use lib.ListN.{length, getD, take}
+use lib.ListN.{length, getD, take, drop}
 use lib.Dec.{ltb}
 use Rattle.model.specs.Answer.{given, refused}
 use Rattle.model.specs.Set.{Set}
 use Rattle.model.specs.Read.{read}
 use Rattle.model.specs.Plan.{planOf, planWords}
-use Rattle.model.specs.Printed.{codes, decimal, hexLine, printed}
+use Rattle.model.specs.Printed.{codes, decimal, hexLine, printed, printedIn}
 use Rattle.demands.specs.Analyses.{planLength}
 use Rattle.demands.specs.Examples.{a}
 
@@ -79,11 +79,17 @@ pub record Printing : Type 0 where
   -- else the plan, a line a word
   pub plan : (bs : List ℕ) → Whole bs → (s : Set) → read (fours bs) ≡ given s → planLength s ≤ 16384
       → printed bs ≡ flatten (map hexLine (planWords (planOf s)))
-  -- what the characters are
+  -- what the characters are: of a word of 32 bits, as all words of a plan are, and of a number
   pub words-on-lines : (w : ℕ) → w < 0x100000000 → IsLine w (hexLine w)
+  pub plan-words : (words : List ℕ) (s : Set) → read words ≡ given s → (i : ℕ) → i < planLength s → getD (planWords (planOf s)) i 0 < 0x100000000
   pub numbers : (n : ℕ) → IsDecimal n (decimal n)
   pub refused-text : codes "refused " ≡ 114 ∷ 101 ∷ 102 ∷ 117 ∷ 115 ∷ 101 ∷ 100 ∷ 32 ∷ []
   pub at-text : codes " at " ≡ 32 ∷ 97 ∷ 116 ∷ 32 ∷ []
+  -- in a lent slice, as the library's function leaves it: the text at the front, and its length, which is never 0; a slice of under 147,456 bytes is left alone, with 0
+  pub some-text : (bs : List ℕ) → 0 < length (printed bs)
+  pub in-slice : (bs slice : List ℕ) → 147456 ≤ length slice
+      → printedIn bs slice ≡ record { count = length (printed bs); slice = printed bs ++ drop (length (printed bs)) slice }
+  pub short-slice : (bs slice : List ℕ) → length slice < 147456 → printedIn bs slice ≡ record { count = 0; slice = slice }
   -- computed: example a, example j, no bytes, and three bytes
   pub a-prints : printed (fileOf a) ≡ lines (
       "60000000" ∷ "80000103" ∷ "80010202" ∷ "60000001" ∷ "80000202" ∷ "80010103" ∷ "70000000" ∷ "80000101" ∷ "80010101" ∷ "90000006" ∷ "5000000A" ∷ [])

@@ -4,7 +4,7 @@ use records::Record;
 use route::RouteAnswer;
 use shape::Shape;
 
-// What a slice holds before a call, to show what the call left alone.
+// What a slice holds before a call, to show what the call left alone; no byte of a map.
 pub const UNTOUCHED: u8 = 9;
 
 // The lengths of the plan slices: enough for the small examples, and for those whose map is shown.

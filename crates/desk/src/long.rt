@@ -1,4 +1,5 @@
 // The longest tasks: two of 254 actions pass, and with a third of 2 the grid is too large.
+use crate::lines::UNTOUCHED;
 use crate::lines::analyse_line;
 use crate::lines::read_line;
 
@@ -49,13 +50,13 @@ pub fn two_long() {
     words[0] = 0x1000_0002;
     words[END_OF_TWO] = 0x5000_01FF;
     read_line(b"two tasks of 254", &words);
-    let mut short = [0u8; ONE_LESS];
+    let mut short = [UNTOUCHED; ONE_LESS];
     analyse_line(
         b"two tasks of 254, a map slice of 65024",
         &words,
         &mut short,
     );
-    let mut map = [0u8; GRID_OF_TWO];
+    let mut map = [UNTOUCHED; GRID_OF_TWO];
     analyse_line(b"two tasks of 254, a map slice of 65025", &words, &mut map);
     words[0] = 0x1000_0001;
     analyse_line(b"two tasks of 254, capacity 1", &words, &mut map);

@@ -6,7 +6,7 @@ mod sets;
 
 fn main() {
     let words = sets::A;
-    let mut map = [0u8; sets::GRID_OF_A];
+    let mut map = [lines::UNTOUCHED; sets::GRID_OF_A];
     lines::analyse_line(b"a", &words, &mut map);
     calls::bids(&words, &map);
     calls::last_number(&words, &map);

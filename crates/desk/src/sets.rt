@@ -72,7 +72,7 @@ pub fn mapped_sets() {
 
 // Examples f to k.
 pub fn small_sets() {
-    let mut map = [0u8; 1];
+    let mut map = [UNTOUCHED; 1];
     analyse_line(b"f", &[0x2000_0000, 0x5000_0001], &mut map);
     analyse_line(b"g", &[0x1000_0008, 0x2000_0000, 0x5000_0002], &mut map);
     analyse_line(b"g, capacity 9", &[0x1000_0009], &mut map);

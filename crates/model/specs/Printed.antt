@@ -52,7 +52,7 @@ unfoldable pub linesOf : List ℕ → List ℕ
 linesOf [] = []
 linesOf (w ∷ ws) = hexLine w ++ linesOf ws
 
--- the decimal digits of a number, highest first, at most k of them
+-- the lowest k decimal digits of a number, all of them if it has fewer, highest first
 unfoldable pub digits : ℕ → ℕ → List ℕ
 digits zero n = []
 digits (suc k) n = cond (ltb n 10) ((48 + n) ∷ []) (digits k (n / 10) ++ ((48 + n % 10) ∷ []))

@@ -7,6 +7,6 @@ use lib.ListN.{length, take, drop}
 abbrev pub over : List ℕ → List ℕ → List ℕ
 over front slice = front ++ drop (length front) slice
 
--- a slice with these in the place of those from a on
+-- a slice with these in the place of as many from index a on
 abbrev pub write : List ℕ → ℕ → List ℕ → List ℕ
 write slice a these = take a slice ++ these ++ drop (a + length these) slice

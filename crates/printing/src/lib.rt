@@ -16,8 +16,8 @@ const PLAN: usize = 16384;
 // A slice for the longest text: a line for each of those words.
 pub const TEXT: usize = PLAN * listing::LINE;
 
-// A byte that no analysis writes.
-const UNWRITTEN: u8 = 0xFF;
+// What the map slice holds before the analysis: no byte of a map.
+const NOT_ANALYSED: u8 = 0xFF;
 
 // What is printed of a file's bytes, at the start of `text`; the answer is how many bytes it has. A slice that is shorter than the longest text is left as it
 // is, and the answer is 0, which no text's length is.
@@ -41,7 +41,7 @@ fn print_plan(words: &[u32], text: &mut [u8]) -> usize
     ensures { λ r. ⌜ record { count = r; slice = now (text .exit) } ≡ shown (textOf (read (now (words .entry)) then toPrint)) (now (text .entry)) ⌝ }
     ensures { λ r. ⌜ r ≤ 147456 ⌝ }
 {
-    let mut map = [UNWRITTEN; MAP];
+    let mut map = [NOT_ANALYSED; MAP];
     let mut plan = [0u32; PLAN];
     match analysis::analyse(words, &mut map, &mut plan) {
         Outcome::Planned { words: count } => listing::fill_lines(&plan[..count], text)

@@ -184,7 +184,7 @@ impl Refusal {
             Refusal::MapTooShort => "the map slice is shorter than the set's number of states",
             Refusal::PlanTooShort => "the plan has more words than its slice",
             Refusal::BytesNotWords => "the number of bytes isn't a multiple of 4: the file was cut, or isn't a set",
-            Refusal::BadRecord => "the record doesn't fit the set and its map: it was damaged, or is another set's",
+            Refusal::BadRecord => "the record doesn't fit the set and its map: it was damaged, or is another set's, or no analysis wrote the map",
             Refusal::NoSuchTask => "the set has no task of this number",
             Refusal::BadMapByte => "the map isn't the one made for this set: it was damaged, or is another set's",
             Refusal::NotAtEnd => "not every task is finished",
