@@ -3,8 +3,7 @@ use Prim.Native.Nat.{ℕ, suc, _+_, _*_, _/_, _%_, _<_, _≤_}
 use native.Mathlib.Omega.{arith}
 use mathlib.Core.Path.{_≡_, refl, ap, _∙_}
 use mathlib.Core.List.{List, [], _∷_, _++_, map, flatten}
-use lib.ListN.{length, drop, length-append}
-use lib.Dec.{ltb}
+use lib.ListN.{length, drop}
 use borrow.Author.Tests.{lt-ltb, le-ltb}
 use Rattle.model.specs.Below.{any, tabulate, maximum}
 use Rattle.model.specs.Answer.{Answer, given, refused, _then_}
@@ -16,13 +15,12 @@ use Rattle.model.specs.Box.{inside, covered, firstBox}
 use Rattle.model.specs.Forbidden.{choose, prefixed, sidesOf, boxesOf, boxesOfAll, deviceBoxes, forbiddenFrom, forbidden}
 use Rattle.model.specs.Map.{stepsOnto, byte, lastBytes, bytes}
 use Rattle.model.specs.UnsafeBoxes.{getsBox, blockerLow, unsafeBox, lastUnsafe, unsafeBoxes}
-use Rattle.model.specs.Layout.{word, END, withEnd}
-use Rattle.model.specs.Plan.{planOf, planBody, ranksFrom, sideWords, forbiddenWords, unsafeWords, planWords}
-use Rattle.model.specs.Printed.{wordAt, wordsIn, wordsOf, toPrint, answerTo, hexLine, linesOf, digits, codes, textOf, printed, printedIn}
-use Rattle.model.proofs.Bools.{by-bool}
-use Rattle.model.proofs.Answers.{refused-given, given-value, then-given}
+use Rattle.model.specs.Layout.{withEnd}
+use Rattle.model.specs.Plan.{planOf, ranksFrom, sideWords, forbiddenWords, unsafeWords, planWords}
+use Rattle.model.specs.Printed.{wordAt, wordsIn, wordsOf, toPrint, hexLine, linesOf, digits, codes, textOf, printed, printedIn}
 use Rattle.model.proofs.FileWords.{too-many, not-whole, whole}
 use Rattle.model.proofs.Lists.{tabulate-cong}
+use Rattle.model.proofs.PrintedLength.{printed-fits}
 use Rattle.model.proofs.ReadExact.{read-sound}
 use Rattle.demands.specs.Analyses.{planLength}
 use Rattle.demands.specs.Printer.{fours, Whole, refusal, lines, Printing}
@@ -85,29 +83,6 @@ module _ (bs : List ℕ) (w : Whole bs) where
     unfolding _then_ toPrint textOf
     short-plan h = of-words bs w (given (planWords (planOf s))) (rw (e, le-ltb 16384 (planLength s) h)) ∙ each-line (planWords (planOf s))
 
--- some words have some lines
-some-lines : (ws : List ℕ) → 0 < length ws → 0 < length (linesOf ws)
-unfolding linesOf
-some-lines [] h = h
-some-lines (w ∷ ws) h = omega arith
-
--- what there is to print of a set is some words
-some-words : (s : Set) (ws : List ℕ) → toPrint s ≡ given ws → 0 < length ws
-unfolding toPrint planWords withEnd
-some-words s ws e =
-    by-bool (ltb 16384 (planLength s))
-    (λ b. refused-given (rw b at e))
-    (λ b. let body = planBody (planOf s) in
-    omega (arith, ap length (given-value (rw b at e)), length-append body (word END (length body) ∷ [])))
-
-some-text : (bs : List ℕ) (x : Answer (List ℕ)) → answerTo bs ≡ x → 0 < length (textOf x)
-unfolding textOf codes
-some-text bs (refused n p) e = omega arith
-some-text bs (given ws) e =
-    let w = then-given _ (wordsOf bs) ws .0 e in
-    let r = then-given _ (read (w .0)) ws .0 (w .2) in
-    some-lines ws (some-words (r .0) ws (r .2))
-
 long-slice : (bs slice : List ℕ) → 147456 ≤ length slice
     → printedIn bs slice ≡ record { count = length (printed bs); slice = printed bs ++ drop (length (printed bs)) slice }
 unfolding printedIn
@@ -130,7 +105,7 @@ printing = record {
   numbers = is-decimal;
   refused-text = refl;
   at-text = refl;
-  some-text = λ bs. some-text bs (answerTo bs) refl;
+  text-length = printed-fits;
   in-slice = long-slice;
   short-slice = short-slice;
   a-prints = refl;

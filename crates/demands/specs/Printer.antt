@@ -85,8 +85,9 @@ pub record Printing : Type 0 where
   pub numbers : (n : ℕ) → IsDecimal n (decimal n)
   pub refused-text : codes "refused " ≡ 114 ∷ 101 ∷ 102 ∷ 117 ∷ 115 ∷ 101 ∷ 100 ∷ 32 ∷ []
   pub at-text : codes " at " ≡ 32 ∷ 97 ∷ 116 ∷ 32 ∷ []
-  -- in a lent slice, as the library's function leaves it: the text at the front, and its length, which is never 0; a slice of under 147,456 bytes is left alone, with 0
-  pub some-text : (bs : List ℕ) → 0 < length (printed bs)
+  -- a text is never empty, and has at most 147,456 bytes
+  pub text-length : (bs : List ℕ) → (0 < length (printed bs)) × (length (printed bs) ≤ 147456)
+  -- in a lent slice, as the library's function leaves it: the text at the front, and its length; a slice of under 147,456 bytes is left alone, with 0
   pub in-slice : (bs slice : List ℕ) → 147456 ≤ length slice
       → printedIn bs slice ≡ record { count = length (printed bs); slice = printed bs ++ drop (length (printed bs)) slice }
   pub short-slice : (bs slice : List ℕ) → length slice < 147456 → printedIn bs slice ≡ record { count = 0; slice = slice }

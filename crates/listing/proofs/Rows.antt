@@ -1,21 +1,16 @@
--- The lines of words: nine bytes each, one after the other.
+-- The lines of words, one after the other.
 -- Assumes nothing.
 use mathlib.Core.Path.{_≡_, refl, sym, ap, _∙_}
 use mathlib.Core.List.{List, [], _∷_, _++_, append-assoc}
 use Prim.Native.Nat.{ℕ, _+_, _*_, _<_, _≤_}
 use native.Mathlib.Numerals.{add-one}
 use native.Mathlib.Omega.{arith}
-use lib.ListN.{length, take, getD, length-append}
+use lib.ListN.{length, take, getD}
 use lib.Seq.{length-take-le, take-suc}
 use Rattle.model.specs.Slice.{write}
 use Rattle.model.specs.Printed.{hexLine, linesOf}
 use Rattle.model.proofs.Slices.{write-then}
-
--- a line has nine bytes
-pub length-lines : (ws : List ℕ) → length (linesOf ws) ≡ length ws * 9
-unfolding linesOf
-length-lines [] = refl
-length-lines (w ∷ ws) = let r = length-lines ws in omega (arith, length-append (hexLine w) (linesOf ws))
+use Rattle.model.proofs.PrintedLength.{length-lines}
 
 lines-snoc : (ws : List ℕ) (w : ℕ) → linesOf (ws ++ (w ∷ [])) ≡ linesOf ws ++ hexLine w
 unfolding linesOf

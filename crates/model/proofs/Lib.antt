@@ -60,3 +60,4 @@ pub mod RouteStep
 pub mod FileWords
 pub mod Decimal
 pub mod ToPrint
+pub mod PrintedLength

@@ -1,18 +1,18 @@
--- A reading's refusals are the numbers 1 to 12.
-use Prim.Native.Nat.{ℕ, suc, _≤_}
+-- A reading's refusals are the numbers 1 to 12, at places up to 4,096.
+use Prim.Native.Nat.{ℕ, suc, _+_, _≤_}
 use native.Mathlib.Omega.{arith}
 use mathlib.Core.Path.{_≡_}
 use mathlib.Core.Bool.{Bool, true, false, not, cond, _&&_, _||_}
 use mathlib.Core.List.{List, [], _∷_}
 use lib.ListN.{length}
 use lib.Dec.{eqb, ltb, leb}
-use borrow.Author.Tests.{ltb-true}
+use borrow.Author.Tests.{ltb-true, ltb-false}
 use Rattle.model.specs.Set.{lengthsOf, size}
 use Rattle.model.specs.Layout.{kindOf, fieldOf, TASK, CLAIM, RELEASE, END}
 use Rattle.model.specs.Answer.{refused}
 use Rattle.model.specs.Read.{Scan, nothingRead, note, holdsNow, holdsSome, outOfOrder, fieldAllowed, tooMany, fault, close, readFrom, read}
 use Rattle.model.proofs.Bools.{by-bool}
-use Rattle.model.proofs.Answers.{given-refused, refused-number}
+use Rattle.model.proofs.Answers.{given-refused, refused-number, refused-place}
 
 cond-le : (b : Bool) (x y m : ℕ) → x ≤ m → y ≤ m → cond b x y ≤ m
 cond-le true x y m h k = h
@@ -59,3 +59,29 @@ read-number ws n p e =
     (λ b. by-bool (ltb 4096 (length ws))
     (λ c. between (refused-number (rw (b, c) at e)) (omega arith) (omega arith))
     (λ c. from-listed nothingRead 0 ws n p (rw (b, c) at e)))
+
+close-placed : (s : Scan) (i n p : ℕ) → close s i ≡ refused n p → p ≤ i
+unfolding close
+close-placed s i n p e =
+    by-bool (s .ended)
+    (λ d. by-bool (ltb 65536 (size (lengthsOf (s .set))))
+    (λ g. omega (arith, refused-place (rw (d, g) at e)))
+    (λ g. given-refused (rw (d, g) at e)))
+    (λ d. omega (arith, refused-place (rw d at e)))
+
+from-placed : (s : Scan) (i : ℕ) (ws : List ℕ) (n p : ℕ) → readFrom s i ws ≡ refused n p → p ≤ i + length ws
+unfolding readFrom
+from-placed s i [] n p e = omega (arith, close-placed s i n p e)
+from-placed s i (w ∷ ws) n p e =
+    by-bool (ltb 0 (fault s i (kindOf w) (fieldOf w)))
+    (λ b. omega (arith, refused-place (rw b at e)))
+    (λ b. omega (arith, from-placed (note s (kindOf w) (fieldOf w)) (suc i) ws n p (rw b at e)))
+
+pub read-place : (ws : List ℕ) (n p : ℕ) → read ws ≡ refused n p → p ≤ 4096
+unfolding read
+read-place ws n p e =
+    by-bool (eqb (length ws) 0)
+    (λ b. omega (arith, refused-place (rw b at e)))
+    (λ b. by-bool (ltb 4096 (length ws))
+    (λ c. omega (arith, refused-place (rw (b, c) at e)))
+    (λ c. omega (arith, ltb-false 4096 (length ws) c, from-placed nothingRead 0 ws n p (rw (b, c) at e))))

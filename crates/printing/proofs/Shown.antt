@@ -12,7 +12,7 @@ use Rattle.model.specs.Read.{read}
 use Rattle.model.specs.Analysis.{Analysed, analyse}
 use Rattle.model.specs.Printed.{wordsIn, wordsOf, toPrint, linesOf, refusalLine, textOf, printed, TEXT, Shown, shown, printedIn}
 use Rattle.model.proofs.ToPrint.{planned, turned-back}
-use Rattle.listing.proofs.Rows.{length-lines}
+use Rattle.model.proofs.PrintedLength.{length-lines}
 use Rattle.analysis.specs.declared.Outcome.{Outcome}
 use Rattle.analysis.specs.declared.Outcome.the-variants.{Planned, Refused}
 use Rattle.analysis.specs.Says.{answerOf, analysedOf}
