@@ -26,7 +26,7 @@ use Rattle.model.specs.Broker.{Served}
 use Rattle.model.specs.Record as model-record
 use Rattle.model.specs.Told.{Told}
 use Rattle.records.specs.declared.Record.{Record}
-use Rattle.broker.proofs.InPlace.{hears}
+use Rattle.model.proofs.ByHand.{hears}
 use Rattle.arbiter.specs.Told.{structOf, ToldServed}
 use Rattle.arbiter.specs.declared.answers.Answer.{Answer}
 use Rattle.arbiter.proofs.answers.Answer as R

@@ -45,13 +45,6 @@ module _ {M : Type 1} {𝓤 : URA M} {H : Heap 𝓤} {A : Atoms 𝓤} {K : Type 
       step (λ s. owned t T.the-row (Is T.the-row) (LL.makes T.the-type T′.the-plain 𝓤 H A) h _ is $ move t (1 ∷ 0 ∷ []) $
       closes t z T.the-row h (mach h ∷ []) b o $ s)
 
-  -- what a callee leaves: its result, of type R, and the clause φ that it ensures of it
-  pub hears : K → Soaks G → (R : RattleType) (w : Val) (tokens : Item 𝓤) (ensured : R .Denot → SProp 𝓤) (φ : R .Denot → Type 0)
-      → ((r : R .Denot) → ent 𝓤 (ensured r) (fact 𝓤 (φ r))) → ((r : R .Denot) → φ r → Seq K W (‵ (R .own r (w ∷ [])) ∷ tokens ∷ Γ) G)
-      → Seq K W (later (some (λ (r : R .Denot). (tokens ⊛ ‵ (R .own r (w ∷ []))) ⊛ raw (ensured r))) ∷ Γ) G
-  hears t z R w tokens ensured φ said k =
-      await t z $ pick t (λ r. split t $ move t (1 ∷ []) $ use1 W (raw (fact 𝓤 (φ r))) (said r) $ heard t (φ r) (λ e. split t $ move t (1 ∷ []) $ k r e))
-
   -- what a call in place leaves: its answer, the last record, and the clause φ that it ensures of both
   pub hears-last : K → Soaks G → (row : RattleType) (w : Val) (tokens : Item 𝓤) (γ : GName) (said : row .Denot → SProp 𝓤) (Others : Type 0) (others : Fml)
       (φ : row .Denot → Record → Type 0)

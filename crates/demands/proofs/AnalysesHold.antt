@@ -26,7 +26,7 @@ module _ (words : List ℕ) (s : Set) (is-read : read words ≡ given s) where
   unfolding _then_ ifGiven mapFits planFits
   of-analysis = record {
     map-length = map-length s;
-    plan-length = plan-count (length (s .capacities)) (length (s .tasks)) (planOf s) (plan-fits s (read-sound words s is-read .1));
+    plan-length = plan-count (length (s .tasks)) (planOf s) (plan-fits s (read-sound words s is-read .1) .lists);
     map-short = λ m p h. rw (is-read, lt-ltb (length m) (size (lengthsOf s)) h);
     plan-short = λ m p h l.
         rw (is-read, le-ltb (length m) (size (lengthsOf s)) h, lt-ltb (length p) (planLength s) l, map-length s);

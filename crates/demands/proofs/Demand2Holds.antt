@@ -1,9 +1,8 @@
 -- Demand 2 holds.
-use Prim.Native.Nat.{ℕ, suc, _<_, _≤_}
-use native.Mathlib.Omega.{arith}
+use Prim.Native.Nat.{ℕ, _<_}
 use mathlib.Core.Path.{_≡_, refl, ap, _∙_}
 use mathlib.Core.Logic.{_↔_, Iff·trans}
-use mathlib.Core.List.{List, [], _∷_, List·Memᴰ, List·Memᴰ·not-nil, List·Memᴰ·cases-cons}
+use mathlib.Core.List.{List}
 use lib.ListN.{length, drop}
 use Rattle.model.specs.Answer.{given}
 use Rattle.model.specs.Set.{Set, lengthsOf, size}
@@ -11,9 +10,8 @@ use Rattle.model.specs.State.{stateAt}
 use Rattle.model.specs.Read.{setIn}
 use Rattle.model.specs.Hold.{permitted}
 use Rattle.model.specs.Run.{Dead}
-use Rattle.model.specs.Plan.{AscendingFrom, deadOf, planOf, planWords, planFrom}
+use Rattle.model.specs.Plan.{deadOf, planOf, planWords, planFrom}
 use Rattle.model.specs.Analysis.{analyse}
-use Rattle.model.proofs.Bools.{by-cases}
 use Rattle.model.proofs.Ranks.{stateAt-grid}
 use Rattle.model.proofs.ForbiddenExact.{forbidden-exact}
 use Rattle.model.proofs.DeadRanks.{dead-ascending, dead-exact}
@@ -22,19 +20,9 @@ use Rattle.model.proofs.ReadAccepts.{read-complete, encode-injective}
 use Rattle.model.proofs.ReadExact.{read-sound}
 use Rattle.model.proofs.Outcome.{accepted-made}
 use Rattle.demands.specs.Demand2.{PlanExact, Demand2}
-use Rattle.demands.specs.Terms.{Ordered}
 use Rattle.demands.specs.MapDemand.{IsDead}
+use Rattle.demands.proofs.Orders.{ascending-ordered}
 use Rattle.demands.proofs.MapDemandHolds.{dead-both}
-
--- a strictly ascending list is ordered by its numbers
-ascending-above : (r : ℕ) (l : List ℕ) → AscendingFrom r l → (q : ℕ) → List·Memᴰ q l → r ≤ q
-ascending-above r [] a q m = absurd (List·Memᴰ·not-nil m)
-ascending-above r (p ∷ l) a q m =
-    by-cases (List·Memᴰ·cases-cons m) (λ e. omega (arith, a .0)) (λ k. omega (arith, a .0, ascending-above (suc p) l (a .1) q k))
-
-ascending-ordered : (r : ℕ) (l : List ℕ) → AscendingFrom r l → Ordered (λ q p. q < p) l
-ascending-ordered r [] a = tt
-ascending-ordered r (p ∷ l) a = (ascending-above (suc p) l (a .1), ascending-ordered (suc p) l (a .1))
 
 -- the plan of a set is exact
 plan-exact : (s : Set) → PlanExact s (planOf s)

@@ -3,7 +3,25 @@ use Prim.Native.Nat.{ℕ}
 use mathlib.Core.Path.{_≡_, refl, sym, ap, _∙_}
 use Rattle.model.specs.Answer.{Answer, given, refused}
 use Rattle.model.specs.Broker.{Bid, granted, finished, busy, held, Again, restarted}
-use Rattle.model.specs.Told.{Told, tell, bidNumbers, tellAnalysis, tellRoute, tellBid, tellAgain, hear, bidHeard, hearNumber, hearBid, hearAgain}
+use Rattle.model.specs.StoredPlan.{Location, in-forbidden, in-unsafe, in-neither}
+use Rattle.model.specs.Told.{
+  Told,
+  tell,
+  bidNumbers,
+  locationNumbers,
+  tellAnalysis,
+  tellRoute,
+  tellBid,
+  tellAgain,
+  tellLocation,
+  hear,
+  bidHeard,
+  locationHeard,
+  hearNumber,
+  hearBid,
+  hearAgain,
+  hearLocation,
+}
 use Rattle.demands.specs.Hosts.{Hosts}
 
 hears-analysis : (a : Answer ℕ) → hearNumber (tellAnalysis a) ≡ a
@@ -29,14 +47,21 @@ unfolding tell hear
 hears-again (given restarted) = refl
 hears-again (refused n p) = refl
 
+hears-location : (a : Answer Location) → hearLocation (tellLocation a) ≡ a
+unfolding tell hear locationNumbers locationHeard
+hears-location (given (in-forbidden i)) = refl
+hears-location (given (in-unsafe i)) = refl
+hears-location (given in-neither) = refl
+hears-location (refused n p) = refl
+
 -- what is heard as it was told is told apart
 apart : {A : Type 0} (tells : A → Told) (hears : Told → A) → ((a : A) → hears (tells a) ≡ a) → (a b : A) → tells a ≡ tells b → a ≡ b
 apart tells hears same a b e = sym (same a) ∙ ap hears e ∙ same b
 
 pub hosts-hold : Hosts
-unfolding tell bidNumbers
+unfolding tell bidNumbers locationNumbers
 hosts-hold = record {
-  of-refused = λ n p. (refl, refl, refl, refl);
+  of-refused = λ n p. (refl, refl, refl, refl, refl);
   of-planned = λ n. refl;
   of-routed = λ n. refl;
   of-granted = refl;
@@ -44,13 +69,17 @@ hosts-hold = record {
   of-busy = λ d. refl;
   of-held = λ r. refl;
   of-restarted = refl;
+  of-forbidden = λ i. refl;
+  of-unsafe = λ i. refl;
+  of-neither = refl;
   of-accepted = λ s. refl;
   of-faulty = λ n p. refl;
-  heard-told = (hears-analysis, hears-route, hears-bid, hears-again);
+  heard-told = (hears-analysis, hears-route, hears-bid, hears-again, hears-location);
   told-apart = (
     apart tellAnalysis hearNumber hears-analysis,
     apart tellRoute hearNumber hears-route,
     apart tellBid hearBid hears-bid,
     apart tellAgain hearAgain hears-again,
+    apart tellLocation hearLocation hears-location,
   );
 }

@@ -8,7 +8,7 @@ use Rattle.model.specs.Set.{Action, claim, release, Task, Set}
 use Rattle.model.specs.Layout.{word, DEVICE, actionWord, taskWords, body, withEnd, encode}
 use Rattle.model.specs.Box.{Box}
 use Rattle.model.specs.Forbidden.{Forbidden}
-use Rattle.model.specs.Plan.{Plan, DEAD-STATE, sideWords, forbiddenWords, unsafeWords, planWords}
+use Rattle.model.specs.Plan.{Plan, DEAD-STATE, sideWords, forbiddenWords, unsafeWords, planBody, planWords}
 use Rattle.demands.specs.Reading.{wordOf, wordsOf}
 use Rattle.demands.specs.Analyses.{sidesFrom, listOf}
 
@@ -67,6 +67,9 @@ dead-words : (ds : List ℕ) → map (word DEAD-STATE) ds ≡ map (λ r. 0x90000
 dead-words [] = refl
 dead-words (d ∷ ds) = omega arith and-then dead-words ds
 
+pub body-words : (p : Plan) → planBody p ≡ listOf p
+body-words p = joined (joined (forbidden-words (p .forbidden)) (unsafe-words (p .unsafe))) (dead-words (p .dead))
+
 pub plan-words : (p : Plan) → planWords p ≡ listOf p ++ ((0x50000000 + length (listOf p)) ∷ [])
 unfolding planWords
-plan-words p = with-end (joined (joined (forbidden-words (p .forbidden)) (unsafe-words (p .unsafe))) (dead-words (p .dead)))
+plan-words p = with-end (body-words p)

@@ -31,8 +31,13 @@ pub mod WalkSteps
 pub mod CallsHold
 pub mod ServiceHolds
 pub mod RouteDemandHolds
-pub mod RefusalsHold
 pub mod PrintedNumbers
 pub mod PlanWordsFit
 pub mod PrinterHolds
+pub mod PlanLayoutHolds
+pub mod PlanFaultsHold
+pub mod LiesHold
+pub mod AgreesHolds
+pub mod StoredPlansHold
+pub mod RefusalsHold
 pub mod HostsHold

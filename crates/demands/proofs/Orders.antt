@@ -1,10 +1,12 @@
--- Ordered lists: joined, changed entry by entry, and under a weaker order; and which number lists stand before which.
-use Prim.Native.Nat.{ℕ, _<_}
+-- Ordered lists: joined, changed entry by entry, and under a weaker order; which number lists stand before which; and ascending numbers.
+use Prim.Native.Nat.{ℕ, suc, _<_, _≤_}
+use native.Mathlib.Omega.{arith}
 use mathlib.Core.Path.{_≡_, refl}
 use mathlib.Core.Bool.{true, _&&_}
-use mathlib.Core.List.{List, [], _∷_, _++_, map, List·Memᴰ, List·Memᴰ·head, List·Memᴰ·tail, List·Memᴰ·append-cases, Memᴰ·of-map}
+use mathlib.Core.List.{List, [], _∷_, _++_, map, List·Memᴰ, List·Memᴰ·head, List·Memᴰ·tail, List·Memᴰ·cases-cons, List·Memᴰ·not-nil, List·Memᴰ·append-cases, Memᴰ·of-map}
 use lib.Dec.{eqb, ltb}
 use borrow.Author.Tests.{lt-ltb, eq-eqb}
+use Rattle.model.specs.Plan.{AscendingFrom}
 use Rattle.model.proofs.Bools.{by-cases, or-right}
 use Rattle.demands.specs.Terms.{before, Ordered}
 
@@ -38,3 +40,18 @@ before-lower p q x y h = rw (lt-ltb p q h)
 pub before-same : (p : ℕ) (x y : List ℕ) → before x y ≡ true → before (p ∷ x) (p ∷ y) ≡ true
 unfolding before
 before-same p x y h = or-right (ltb p p) (eqb p p && before x y) (rw (eq-eqb p p refl, h))
+
+-- a strictly ascending list is ordered by its numbers
+ascending-above : (r : ℕ) (l : List ℕ) → AscendingFrom r l → (q : ℕ) → List·Memᴰ q l → r ≤ q
+ascending-above r [] a q m = absurd (List·Memᴰ·not-nil m)
+ascending-above r (p ∷ l) a q m =
+    by-cases (List·Memᴰ·cases-cons m) (λ e. omega (arith, a .0)) (λ k. omega (arith, a .0, ascending-above (suc p) l (a .1) q k))
+
+pub ascending-ordered : (r : ℕ) (l : List ℕ) → AscendingFrom r l → Ordered (λ q p. q < p) l
+ascending-ordered r [] a = tt
+ascending-ordered r (p ∷ l) a = (ascending-above (suc p) l (a .1), ascending-ordered (suc p) l (a .1))
+
+-- and the other way
+pub ordered-ascending : (r : ℕ) (l : List ℕ) → ((q : ℕ) → List·Memᴰ q l → r ≤ q) → Ordered (λ q p. q < p) l → AscendingFrom r l
+ordered-ascending r [] h o = tt
+ordered-ascending r (p ∷ l) h o = (h p (List·Memᴰ·head refl), ordered-ascending (suc p) l (o .0) (o .1))

@@ -1,7 +1,6 @@
 -- Each word of a plan fits 32 bits, so that eight hexadecimal digits stand for it.
-use Prim.Native.Nat.{ℕ, zero, suc, _+_, _<_, _≤_}
+use Prim.Native.Nat.{ℕ, suc, _+_, _<_, _≤_}
 use native.Mathlib.Omega.{arith}
-use native.Mathlib.Nat.{le-of-suc-le-suc}
 use mathlib.Core.List.{List, [], _∷_, _++_}
 use lib.ListN.{length, getD, length-append}
 use Rattle.model.specs.Set.{Set}
@@ -9,18 +8,13 @@ use Rattle.model.specs.Layout.{WellFormed, word, END, withEnd}
 use Rattle.model.specs.Box.{Box}
 use Rattle.model.specs.Forbidden.{Forbidden}
 use Rattle.model.specs.Plan.{planOf, DEAD-STATE, sideWords, forbiddenWords, unsafeWords, deadWords, planBody, planWords}
-use Rattle.model.proofs.Each.{Each, each-append, each-map}
+use Rattle.model.proofs.Each.{Each, each-at, each-append, each-map}
 use Rattle.model.proofs.Fits.{FieldFits, SideFits, Sided, DeviceSided}
 use Rattle.model.proofs.PlanFitting.{plan-fits, plan-length}
 
 -- 32 bits
 abbrev Fits : ℕ → Type 0
 Fits w = w < 0x100000000
-
-each-at : (P : ℕ → Type 0) (l : List ℕ) → Each P l → (i : ℕ) → i < length l → P (getD l i 0)
-each-at P [] e i h = absurd (let f : ⊥ = omega arith in f)
-each-at P (a ∷ l) e zero h = e .0
-each-at P (a ∷ l) e (suc i) h = each-at P l (e .1) i (le-of-suc-le-suc h)
 
 sides-fit : (t : ℕ) (b : Box) → Each SideFits b → t + length b ≤ 256 → Each Fits (sideWords t b)
 unfolding sideWords
@@ -33,12 +27,12 @@ boxes-fit n h [] e = tt
 boxes-fit n h (b ∷ bs) e =
     (omega arith, each-append Fits (sideWords 0 b) (unsafeWords bs) (sides-fit 0 b (e .0 .sides) (omega (arith, e .0 .count))) (boxes-fit n h bs (e .1)))
 
-forbidden-fit : (m n : ℕ) → m ≤ 0x10000000 → n ≤ 256 → (fs : List Forbidden) → Each (DeviceSided m n) fs → Each Fits (forbiddenWords fs)
+forbidden-fit : (n : ℕ) → n ≤ 256 → (fs : List Forbidden) → Each (DeviceSided n) fs → Each Fits (forbiddenWords fs)
 unfolding forbiddenWords
-forbidden-fit m n k h [] e = tt
-forbidden-fit m n k h (f ∷ fs) e = (
+forbidden-fit n h [] e = tt
+forbidden-fit n h (f ∷ fs) e = (
   omega (arith, e .0 .device),
-  each-append Fits (sideWords 0 (f .box)) (forbiddenWords fs) (sides-fit 0 (f .box) (e .0 .box .sides) (omega (arith, e .0 .box .count))) (forbidden-fit m n k h fs (e .1)),
+  each-append Fits (sideWords 0 (f .box)) (forbiddenWords fs) (sides-fit 0 (f .box) (e .0 .box .sides) (omega (arith, e .0 .box .count))) (forbidden-fit n h fs (e .1)),
 )
 
 -- all of them: the sections, and END
@@ -53,10 +47,10 @@ all-fit s w =
     each-append Fits (planBody p) (word END (length (planBody p)) ∷ [])
     (each-append Fits (forbiddens ++ unsafes) deads
     (each-append Fits forbiddens unsafes
-    (forbidden-fit (length (s .capacities)) (length (s .tasks)) (f .devices) (f .tasks) (p .forbidden) (f .forbidden))
-    (boxes-fit (length (s .tasks)) (f .tasks) (p .unsafe) (f .unsafe)))
-    (each-map FieldFits Fits (word DEAD-STATE) (λ r h. omega arith) (p .dead) (f .dead)))
+    (forbidden-fit (length (s .tasks)) (f .tasks) (p .forbidden) (f .lists .forbidden))
+    (boxes-fit (length (s .tasks)) (f .tasks) (p .unsafe) (f .lists .unsafe)))
+    (each-map FieldFits Fits (word DEAD-STATE) (λ r h. omega arith) (p .dead) (f .lists .dead)))
     (omega (arith, plan-length s w, length-append (planBody p) (word END (length (planBody p)) ∷ [])), tt)
 
 pub plan-words-fit : (s : Set) → WellFormed s → (i : ℕ) → i < length (planWords (planOf s)) → getD (planWords (planOf s)) i 0 < 0x100000000
-plan-words-fit s w = each-at Fits (planWords (planOf s)) (all-fit s w)
+plan-words-fit s w = each-at Fits 0 (planWords (planOf s)) (all-fit s w)

@@ -1,16 +1,15 @@
 -- Printed numbers stand for what they should: decimal ones, and the hexadecimal digits of a word's line.
 use Prim.Native.Nat.{ℕ, zero, suc, _+_, _*_, _-_, _/_, _%_, _<_, _≤_}
 use native.Mathlib.Omega.{arith}
-use native.Mathlib.Nat.{le-of-suc-le-suc}
 use mathlib.Core.Path.{_≡_, refl, ap, _∙_}
 use mathlib.Core.Logic.{inl, inr}
 use mathlib.Core.List.{List, [], _∷_, _++_, map}
 use lib.ListN.{length, getD, length-append, List·getD-append}
-use lib.Seq.{getD-append-seam}
 use lib.Dec.{ltb}
 use borrow.Author.Tests.{lt-ltb, le-ltb, ltb-true, ltb-false}
 use Rattle.model.specs.Printed.{decimal, hexDigit, hexLine}
 use Rattle.model.proofs.Bools.{by-bool}
+use Rattle.model.proofs.Each.{Each, each-at, each-append, each-map}
 use Rattle.model.proofs.Decimal.{decimal-one, decimal-more}
 use Rattle.demands.specs.Printer.{numberFrom, IsDecimal, IsHex, hexValue, IsLine}
 
@@ -27,19 +26,15 @@ IsDigit c = (48 ≤ c) × (c ≤ 57)
 -- what is proved of a number by its tenth: some characters, all digits, the first of a number above 0 not 0, that stand for it
 record Spelt (n : ℕ) (text : List ℕ) : Type 0 where
   some : 0 < length text
-  digits : (i : ℕ) → i < length text → IsDigit (getD text i 0)
+  digits : Each IsDigit text
   leading : 1 ≤ n → 48 < getD text 0 0
   number : numberFrom 10 (λ c. c - 48) 0 text ≡ n
-
-alone : (c i : ℕ) → IsDigit c → i < 1 → IsDigit (getD (c ∷ []) i 0)
-alone c zero d h = d
-alone c (suc i) d h = absurd (let f : ⊥ = omega arith in f)
 
 one : (n : ℕ) → n < 10 → Spelt n ((48 + n) ∷ [])
 unfolding numberFrom
 one n h = record {
   some = omega arith;
-  digits = λ i l. alone (48 + n) i (omega arith, omega arith) l;
+  digits = ((omega arith, omega arith), tt);
   leading = λ l. omega arith;
   number = omega arith;
 }
@@ -48,18 +43,10 @@ module _ (n : ℕ) (h : 10 ≤ n) (cs : List ℕ) (tenth : Spelt (n / 10) cs) wh
   abbrev c : ℕ
   c = 48 + n % 10
 
-  each : (i : ℕ) → i < length (cs ++ (c ∷ [])) → IsDigit (getD (cs ++ (c ∷ [])) i 0)
-  each i l =
-      by-bool (ltb i (length cs))
-      (λ b. let k = ltb-true i (length cs) b in rw (List·getD-append cs (c ∷ []) 0 i k) (tenth .digits i k))
-      (λ b. let k = ltb-false i (length cs) b in
-      let at : i ≡ length cs = omega (arith, length-append cs (c ∷ [])) in
-      rw (at, getD-append-seam cs c [] 0) (omega arith, omega arith))
-
   more : Spelt n (cs ++ (c ∷ []))
   more = record {
     some = omega (arith, length-append cs (c ∷ []));
-    digits = each;
+    digits = each-append IsDigit cs (c ∷ []) (tenth .digits) ((omega arith, omega arith), tt);
     leading = λ l. rw (List·getD-append cs (c ∷ []) 0 0 (tenth .some)) (tenth .leading (omega arith));
     number = number-snoc 10 (λ c. c - 48) 0 cs c ∙ omega (arith, tenth .number);
   }
@@ -76,7 +63,7 @@ is-decimal n =
     let s = spelt (suc n) n (omega arith) in
     record {
       some = s .some;
-      digits = s .digits;
+      digits = each-at IsDigit 0 (decimal n) (s .digits);
       no-zeros = λ l. by-bool (ltb n 10)
           (λ b. absurd (let f : ⊥ = omega (arith, ap length (decimal-one n (ltb-true n 10 b))) in f))
           (λ b. let k = ltb-false n 10 b in s .leading (omega arith));
@@ -97,16 +84,13 @@ hex-value d h =
     (λ b. let l = ltb-false d 10 b in rw (b, le-ltb (65 + (d - 10)) 65 (omega arith)) (omega arith))
 
 -- digits below 16
-abbrev Below : List ℕ → Type 0
-Below [] = Unit {0}
-Below (d ∷ ds) = (d < 16) × Below ds
+abbrev Below : ℕ → Type 0
+Below d = d < 16
 
-each-hex : (ds : List ℕ) → Below ds → (i : ℕ) → i < length (map hexDigit ds) → IsHex (getD (map hexDigit ds) i 0)
-each-hex [] b i h = absurd (let f : ⊥ = omega arith in f)
-each-hex (d ∷ ds) b zero h = is-hex d (b .0)
-each-hex (d ∷ ds) b (suc i) h = each-hex ds (b .1) i (le-of-suc-le-suc h)
+each-hex : (ds : List ℕ) → Each Below ds → (i : ℕ) → i < length (map hexDigit ds) → IsHex (getD (map hexDigit ds) i 0)
+each-hex ds b = each-at IsHex 0 (map hexDigit ds) (each-map Below IsHex hexDigit is-hex ds b)
 
-counted : (ds : List ℕ) → Below ds → (n : ℕ) → numberFrom 16 hexValue n (map hexDigit ds) ≡ numberFrom 16 (λ d. d) n ds
+counted : (ds : List ℕ) → Each Below ds → (n : ℕ) → numberFrom 16 hexValue n (map hexDigit ds) ≡ numberFrom 16 (λ d. d) n ds
 unfolding numberFrom
 counted [] b n = refl
 counted (d ∷ ds) b n = ap (λ (v : ℕ). numberFrom 16 hexValue (n * 16 + v) (map hexDigit ds)) (hex-value d (b .0)) ∙ counted ds (b .1) (n * 16 + d)
@@ -135,7 +119,7 @@ stand w h =
 
 pub is-line : (w : ℕ) → w < 0x100000000 → IsLine w (hexLine w)
 is-line w h =
-    let b : Below (digitsOf w) = (omega arith, (omega arith, (omega arith, (omega arith, (omega arith, (omega arith, (omega arith, (omega arith, tt)))))))) in
+    let b : Each Below (digitsOf w) = (omega arith, (omega arith, (omega arith, (omega arith, (omega arith, (omega arith, (omega arith, (omega arith, tt)))))))) in
     record {
       nine = refl;
       ends = refl;

@@ -1,9 +1,9 @@
 -- What is printed, case by case, and the characters of it.
 use Prim.Native.Nat.{ℕ, suc, _+_, _*_, _/_, _%_, _<_, _≤_}
 use native.Mathlib.Omega.{arith}
-use mathlib.Core.Path.{_≡_, refl, ap, _∙_}
+use mathlib.Core.Path.{_≡_, refl, sym, ap, _∙_}
 use mathlib.Core.List.{List, [], _∷_, _++_, map, flatten}
-use lib.ListN.{length, drop}
+use lib.ListN.{length}
 use borrow.Author.Tests.{lt-ltb, le-ltb}
 use Rattle.model.specs.Below.{any, tabulate, maximum}
 use Rattle.model.specs.Answer.{Answer, given, refused, _then_}
@@ -17,9 +17,10 @@ use Rattle.model.specs.Map.{stepsOnto, byte, lastBytes, bytes}
 use Rattle.model.specs.UnsafeBoxes.{getsBox, blockerLow, unsafeBox, lastUnsafe, unsafeBoxes}
 use Rattle.model.specs.Layout.{withEnd}
 use Rattle.model.specs.Plan.{planOf, ranksFrom, sideWords, forbiddenWords, unsafeWords, planWords}
-use Rattle.model.specs.Printed.{wordAt, wordsIn, wordsOf, toPrint, hexLine, linesOf, digits, codes, textOf, printed, printedIn}
+use Rattle.model.specs.Printed.{wordAt, wordsIn, wordsOf, toPrint, hexLine, linesOf, digits, codes, textOf, printed}
 use Rattle.model.proofs.FileWords.{too-many, not-whole, whole}
 use Rattle.model.proofs.Lists.{tabulate-cong}
+use Rattle.model.proofs.ToPrint.{of-words, of-none, long-enough, too-short}
 use Rattle.model.proofs.PrintedLength.{printed-fits}
 use Rattle.model.proofs.ReadExact.{read-sound}
 use Rattle.demands.specs.Analyses.{planLength}
@@ -64,39 +65,30 @@ unfolding linesOf flatten
 each-line [] = refl
 each-line (w ∷ ws) = ap (λ (l : List ℕ). hexLine w ++ l) (each-line ws)
 
--- bytes that are words are printed as what there is to print of those
-of-words : (bs : List ℕ) → Whole bs → (x : Answer (List ℕ)) → (read (fours bs) then toPrint) ≡ x → printed bs ≡ textOf x
-unfolding _then_
-of-words bs w x e = rw (whole bs (w .0) (w .1), by-fours bs (w .1)) (ap textOf e)
-
+-- bytes that are words
 module _ (bs : List ℕ) (w : Whole bs) where
-  pub refused-set : (n p : ℕ) → read (fours bs) ≡ refused n p → printed bs ≡ refusal n p
+  -- are printed as what there is to print of those
+  of-fours : (x : Answer (List ℕ)) → (read (fours bs) then toPrint) ≡ x → printed bs ≡ textOf x
+  of-fours x e = of-words bs (fours bs) (whole bs (w .0) (w .1) ∙ ap given (by-fours bs (w .1))) ∙ ap textOf e
+
+  refused-set : (n p : ℕ) → read (fours bs) ≡ refused n p → printed bs ≡ refusal n p
   unfolding _then_ textOf
-  refused-set n p e = of-words bs w (refused n p) (rw e)
+  refused-set n p e = of-fours (refused n p) (rw e)
 
   module _ (s : Set) (e : read (fours bs) ≡ given s) where
     long-plan : 16384 < planLength s → printed bs ≡ refusal 14 16384
     unfolding _then_ toPrint textOf
-    long-plan h = of-words bs w (refused 14 16384) (rw (e, lt-ltb 16384 (planLength s) h))
+    long-plan h = of-fours (refused 14 16384) (rw (e, lt-ltb 16384 (planLength s) h))
 
     short-plan : planLength s ≤ 16384 → printed bs ≡ flatten (map hexLine (planWords (planOf s)))
     unfolding _then_ toPrint textOf
-    short-plan h = of-words bs w (given (planWords (planOf s))) (rw (e, le-ltb 16384 (planLength s) h)) ∙ each-line (planWords (planOf s))
-
-long-slice : (bs slice : List ℕ) → 147456 ≤ length slice
-    → printedIn bs slice ≡ record { count = length (printed bs); slice = printed bs ++ drop (length (printed bs)) slice }
-unfolding printedIn
-long-slice bs slice h = rw (le-ltb (length slice) 147456 h)
-
-short-slice : (bs slice : List ℕ) → length slice < 147456 → printedIn bs slice ≡ record { count = 0; slice = slice }
-unfolding printedIn
-short-slice bs slice h = rw (lt-ltb (length slice) 147456 h)
+    short-plan h = of-fours (given (planWords (planOf s))) (rw (e, le-ltb 16384 (planLength s) h)) ∙ each-line (planWords (planOf s))
 
 pub printing : Printing
 unfolding any tabulate maximum deviceOf size lastTask addAction heldAfter note outOfOrder fieldAllowed tooMany fault close readFrom read isEnd sum weight rank stateAt heldTo holdsFrom holding unitsHeld permitted inside covered firstBox choose prefixed sidesOf boxesOf boxesOfAll deviceBoxes forbiddenFrom forbidden stepsOnto byte lastBytes bytes getsBox blockerLow unsafeBox lastUnsafe unsafeBoxes withEnd ranksFrom sideWords forbiddenWords unsafeWords planWords _then_ wordAt wordsOf toPrint linesOf digits codes textOf lines flatten
 printing = record {
-  too-many = λ bs h. ap textOf (ap (λ (a : Answer (List ℕ)). a then λ ws. read ws then toPrint) (too-many bs h));
-  not-words = λ bs h f. ap textOf (ap (λ (a : Answer (List ℕ)). a then λ ws. read ws then toPrint) (not-whole bs h f));
+  too-many = λ bs h. of-none bs 2 4096 (too-many bs h);
+  not-words = λ bs h f. of-none bs 15 (length bs / 4) (not-whole bs h f);
   no-set = refused-set;
   too-long = long-plan;
   plan = short-plan;
@@ -106,8 +98,8 @@ printing = record {
   refused-text = refl;
   at-text = refl;
   text-length = printed-fits;
-  in-slice = long-slice;
-  short-slice = short-slice;
+  in-slice = λ bs slice h. sym (long-enough bs slice h);
+  short-slice = λ bs slice h. sym (too-short bs slice h);
   a-prints = refl;
   j-prints = refl;
   nothing-prints = refl;

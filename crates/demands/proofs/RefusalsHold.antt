@@ -10,17 +10,19 @@ use lib.Dec.{eqb, ltb, leb}
 use borrow.Author.Tests.{eqb-true}
 use Rattle.model.specs.Answer.{Answer, given, refused, _then_}
 use Rattle.model.specs.Set.{Set, lengthsOf, at, size}
-use Rattle.model.specs.State.{unfinished, isEnd, next, rank}
+use Rattle.model.specs.State.{State, unfinished, isEnd, next, rank}
 use Rattle.model.specs.Read.{read}
 use Rattle.model.specs.Plan.{planOf, planWords}
 use Rattle.model.specs.Record.{Record, misplaced, mapFits, placed}
 use Rattle.model.specs.Analysis.{planFits, withRoom, analyse}
 use Rattle.model.specs.Broker.{bidByte, bidAnswer, bid, againAnswer, again}
 use Rattle.model.specs.Route.{stepsFrom, walked, routeFrom, routeSteps, routeFits, route}
+use Rattle.model.specs.StoredPlan.{locate}
 use Rattle.model.proofs.Bools.{by-cases, true-not-false, or-true}
 use Rattle.model.proofs.Answers.{then-refused}
 use Rattle.model.proofs.ReadNumbers.{read-number}
-use Rattle.demands.specs.Refusals.{ofSet, ofAnalysis, ofBid, ofAgain, ofRoute, Only, Refusals}
+use Rattle.demands.specs.Refusals.{ofSet, ofAnalysis, ofBid, ofAgain, ofRoute, ofQuestion, Only, Refusals}
+use Rattle.demands.proofs.PlanFaultsHold.{plan-faults-hold}
 
 -- a number that a list has
 abbrev has : ℕ → List ℕ → Bool
@@ -127,6 +129,11 @@ route-only words map r slice =
     (by (not (isEnd (lengthsOf s) (walked x (stepsFrom (lengthsOf s) map x)))) _ _ (is 18 refl) tt)))) λ ts.
     by (ltb (length slice) (length ts)) _ _ (is 21 refl) tt) λ ts. tt
 
+question-only : (x : State) (plan : List ℕ) (tasks : ℕ) → Only ofQuestion (locate x plan tasks)
+question-only x plan tasks =
+    only-intro ofQuestion (locate x plan tasks) λ n p e.
+    by-cases (plan-faults-hold .no-others x plan tasks n p e) List·Memᴰ·head (λ q. List·Memᴰ·tail (List·Memᴰ·head q))
+
 pub refusals : Refusals
 refusals = record {
   reads = read-only [];
@@ -134,4 +141,5 @@ refusals = record {
   bids = bid-only;
   agains = again-only;
   routes = route-only;
+  questions = question-only;
 }

@@ -19,4 +19,5 @@ pub mod Demand3
 pub mod RouteDemand
 pub mod Refusals
 pub mod Printer
+pub mod StoredPlans
 pub mod Hosts

@@ -6,7 +6,9 @@ use Rattle.model.specs.Read.{read}
 use Rattle.model.specs.Analysis.{analyse}
 use Rattle.model.specs.Record.{Record}
 use Rattle.model.specs.Broker.{bid, again}
+use Rattle.model.specs.State.{State}
 use Rattle.model.specs.Route.{route}
+use Rattle.model.specs.StoredPlan.{locate}
 
 -- a set's own refusals
 abbrev pub ofSet : List ℕ
@@ -28,6 +30,10 @@ ofAgain = ofSet ++ (16 ∷ 19 ∷ [])
 abbrev pub ofRoute : List ℕ
 ofRoute = ofSet ++ (13 ∷ 16 ∷ 18 ∷ 20 ∷ 21 ∷ [])
 
+-- a question to a stored plan: 22, 23
+abbrev pub ofQuestion : List ℕ
+ofQuestion = 22 ∷ 23 ∷ []
+
 -- an answer that is no refusal, or one with a listed number
 unfoldable pub Only : {A : Type 0} → List ℕ → Answer A → Type 0
 Only listed (given a) = Unit {0}
@@ -40,3 +46,4 @@ pub record Refusals : Type 0 where
   pub bids : (words map : List ℕ) (r : Record) (t : ℕ) → Only ofBid (bid words map r t .answer)
   pub agains : (words : List ℕ) (r : Record) → Only ofAgain (again words r .answer)
   pub routes : (words map : List ℕ) (r : Record) (slice : List ℕ) → Only ofRoute (route words map r slice .answer)
+  pub questions : (x : State) (plan : List ℕ) (tasks : ℕ) → Only ofQuestion (locate x plan tasks)

@@ -1,9 +1,12 @@
 -- A fact of each entry of a list.
 use Prim.Native.Nat.{ℕ, zero, suc, _<_, suc-le-suc}
 use native.Mathlib.Omega.{arith}
-use mathlib.Core.List.{List, [], _∷_, _++_, map}
+use native.Mathlib.Nat.{le-of-suc-le-suc}
+use mathlib.Core.Path.{refl}
+use mathlib.Core.List.{List, [], _∷_, _++_, map, List·Memᴰ, List·Memᴰ·head, List·Memᴰ·tail, List·Memᴰ·cases-cons, List·Memᴰ·not-nil}
 use lib.ListN.{length, getD}
 use Rattle.model.specs.Below.{tabulate}
+use Rattle.model.proofs.Bools.{by-cases}
 
 abbrev pub Each : {A : Type 0} → (A → Type 0) → List A → Type 0
 Each P [] = Unit {0}
@@ -25,6 +28,20 @@ each-map P Q g h (a ∷ l) e = (h a (e .0), each-map P Q g h l (e .1))
 pub each-place : {A : Type 0} (P : A → Type 0) (d : A) (l : List A) → ((t : ℕ) → t < length l → P (getD l t d)) → Each P l
 each-place P d [] h = tt
 each-place P d (a ∷ l) h = (h 0 (omega arith), each-place P d l (λ t k. h (suc t) (suc-le-suc k)))
+
+pub each-at : {A : Type 0} (P : A → Type 0) (d : A) (l : List A) → Each P l → (t : ℕ) → t < length l → P (getD l t d)
+each-at P d [] e t h = absurd (omega arith)
+each-at P d (a ∷ l) e zero h = e .0
+each-at P d (a ∷ l) e (suc t) h = each-at P d l (e .1) t (le-of-suc-le-suc h)
+
+-- each entry is a member
+pub each-member : {A : Type 0} (P : A → Type 0) (l : List A) → Each P l → (a : A) → List·Memᴰ a l → P a
+each-member P [] e a m = absurd (List·Memᴰ·not-nil m)
+each-member P (b ∷ l) e a m = by-cases (List·Memᴰ·cases-cons m) (λ q. rw q (e .0)) (each-member P l (e .1) a)
+
+pub member-each : {A : Type 0} (P : A → Type 0) (l : List A) → ((a : A) → List·Memᴰ a l → P a) → Each P l
+member-each P [] h = tt
+member-each P (b ∷ l) h = (h b (List·Memᴰ·head refl), member-each P l (λ a m. h a (List·Memᴰ·tail m)))
 
 pub each-tabulate : {A : Type 0} (P : A → Type 0) (n : ℕ) (f : ℕ → A) → ((t : ℕ) → t < n → P (f t)) → Each P (tabulate n f)
 unfolding tabulate

@@ -22,7 +22,8 @@ after-release : (d e : ℕ) (h k : Bool) (rest : Task) → (not (eqb e d) && h) 
 unfolding heldAfter
 after-release d e h k rest q = ap (λ b. heldAfter d b rest) (sym q)
 
-heldTo-le : (d p : ℕ) (task : Task) → p ≤ heldTo d p task
+-- held from now on, to this position or a later one
+pub heldTo-le : (d p : ℕ) (task : Task) → p ≤ heldTo d p task
 unfolding heldTo
 heldTo-le d p [] = omega arith
 heldTo-le d p (claim e ∷ rest) = omega (arith, heldTo-le d (suc p) rest)

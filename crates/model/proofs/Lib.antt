@@ -6,6 +6,8 @@ pub mod Lists
 pub mod Slices
 pub mod Each
 pub mod Answers
+-- walks by hand
+pub mod ByHand
 -- states: steps, ranks and sums
 pub mod States
 pub mod Ranks
@@ -46,6 +48,11 @@ pub mod PlanBack
 pub mod PlanCount
 pub mod PlanFitting
 pub mod Outcome
+-- stored plans
+pub mod PlanScans
+pub mod PlanScanned
+pub mod FirstBoxes
+pub mod Located
 -- the service: the start is open, laws from three facts, and the broker that has them
 pub mod StartOpen
 pub mod ReleaseOpen

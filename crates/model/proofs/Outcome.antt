@@ -1,7 +1,7 @@
 -- What an analysis leaves where it makes the map: accepted, or refused with 14.
 use Prim.Native.Nat.{ℕ, _≤_}
 use native.Mathlib.Omega.{arith}
-use mathlib.Core.Path.{_≡_, refl, sym}
+use mathlib.Core.Path.{_≡_, refl, sym, ap, _∙_}
 use mathlib.Core.List.{List}
 use lib.ListN.{length}
 use lib.Dec.{ltb}
@@ -68,15 +68,24 @@ module _ (words map : List ℕ) where
     unfolding ifGiven setOf
     plan-made s ws e q d h = rw (e, q, d, h)
 
-    -- accepted: the plan's words stand at the front of the plan slice too, which is long enough for them
+    -- accepted: the plan's words stand at the front of the plan slice too, which is long enough for them, and their number is answered
     pub accepted-made : (n : ℕ) → analyse words map plan .answer ≡ given n
-        → Mapped (read words) map (analyse words map plan .map) × (analyse words map plan .plan ≡ over (planWords (planOf (setOf (read words)))) plan) × (n ≤ length plan)
-    unfolding ifGiven
+        → Mapped (read words) map (analyse words map plan .map)
+        × (analyse words map plan .plan ≡ over (planWords (planOf (setOf (read words)))) plan)
+        × (n ≤ length plan)
+        × (n ≡ length (planWords (planOf (setOf (read words)))))
+    unfolding ifGiven setOf
     accepted-made n e =
         let r = then-given _ (withRoom words map) n .0 e in
         let q = then-given _ (planFits (r .0) plan) n .0 (r .2) in
         let p = plan-given (r .0) plan (q .0) (q .1) in
-        (rw (r .1) (room-made (r .0) (r .1)), plan-made (r .0) (q .0) (r .1) (q .1) (room-given (r .0) (r .1) .0) (p .0), rw (given-value (q .2)) at (p .1))
+        let d = room-given (r .0) (r .1) .0 in
+        let count = given-value (q .2) in (
+          rw (r .1) (room-made (r .0) (r .1)),
+          plan-made (r .0) (q .0) (r .1) (q .1) d (p .0),
+          rw count at (p .1),
+          rw d (sym count ∙ ap length (p .0)),
+        )
 
     -- 14: the map stands all the same
     pub short-made : (place : ℕ) → analyse words map plan .answer ≡ refused 14 place → Mapped (read words) map (analyse words map plan .map)

@@ -1,19 +1,19 @@
--- What there is to print of words, by what an analysis answers and leaves in slices as long as the printer's.
-use Prim.Native.Nat.{ℕ, _≤_}
+-- What there is to print of words, by what an analysis answers and leaves in slices as long as the printer's; and what is printed of bytes.
+use Prim.Native.Nat.{ℕ, _<_, _≤_}
 use native.Mathlib.Omega.{arith}
 use mathlib.Core.Path.{_≡_, sym, ap, _∙_}
 use mathlib.Core.Logic.{inl, inr}
 use mathlib.Core.List.{List}
 use lib.ListN.{length, take, drop}
 use lib.Seq.{take-at}
-use borrow.Author.Tests.{le-ltb}
-use Rattle.model.specs.Answer.{given, refused, _then_, ifGiven}
+use borrow.Author.Tests.{lt-ltb, le-ltb}
+use Rattle.model.specs.Answer.{Answer, given, refused, _then_, ifGiven}
 use Rattle.model.specs.Set.{Set, lengthsOf, size}
 use Rattle.model.specs.Read.{read}
 use Rattle.model.specs.Record.{mapFits}
 use Rattle.model.specs.Slice.{over}
 use Rattle.model.specs.Analysis.{planFits, withRoom, analyse}
-use Rattle.model.specs.Printed.{toPrint}
+use Rattle.model.specs.Printed.{wordsOf, toPrint, refusalLine, textOf, printed, TEXT, shown, printedIn}
 use Rattle.model.proofs.Bools.{by-cases}
 use Rattle.model.proofs.Answers.{given-refused, given-value, then-refused, then-given}
 use Rattle.model.proofs.ReadExact.{read-sound}
@@ -59,3 +59,23 @@ module _ (words map plan : List ℕ) (all : 65536 ≤ length map) (most : length
       (λ r. by-cases (then-refused _ (planFits (r .0) plan) n p .0 (r .2))
       (λ f. then-refused toPrint (read words) n p .1 (inr (r .0, room-given words map (r .0) (r .1) .0, sym (fitted (r .0)) ∙ f)))
       (λ f. given-refused (f .2)))
+
+-- ---- what is printed
+module _ (bs : List ℕ) where
+  -- by what the bytes are
+  pub of-words : (ws : List ℕ) → wordsOf bs ≡ given ws → printed bs ≡ textOf (read ws then toPrint)
+  unfolding _then_
+  of-words ws e = ap textOf (ap (λ (a : Answer (List ℕ)). a then λ ws. read ws then toPrint) e)
+
+  pub of-none : (n p : ℕ) → wordsOf bs ≡ refused n p → printed bs ≡ refusalLine n p
+  unfolding _then_ textOf
+  of-none n p e = ap textOf (ap (λ (a : Answer (List ℕ)). a then λ ws. read ws then toPrint) e)
+
+  -- into a slice that is long enough, and into one that is not
+  pub long-enough : (slice : List ℕ) → TEXT ≤ length slice → shown (printed bs) slice ≡ printedIn bs slice
+  unfolding printedIn
+  long-enough slice h = rw (le-ltb (length slice) TEXT h)
+
+  pub too-short : (slice : List ℕ) → length slice < TEXT → record { count = 0; slice = slice } ≡ printedIn bs slice
+  unfolding printedIn
+  too-short slice h = rw (lt-ltb (length slice) TEXT h)

@@ -20,4 +20,5 @@ pub mod Analysis
 pub mod Broker
 pub mod Route
 pub mod Printed
+pub mod StoredPlan
 pub mod Told

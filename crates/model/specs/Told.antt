@@ -6,6 +6,7 @@ use Rattle.model.specs.Answer.{Answer, given, refused}
 use Rattle.model.specs.Set.{lengthsOf, size}
 use Rattle.model.specs.Read.{Reading}
 use Rattle.model.specs.Broker.{Bid, granted, finished, busy, held, Again, restarted}
+use Rattle.model.specs.StoredPlan.{Location, in-forbidden, in-unsafe, in-neither}
 
 -- the version of the library, 1.0.0: major times 10,000, minor times 100, patch
 abbrev pub VERSION : ℕ
@@ -36,6 +37,12 @@ bidNumbers finished = plain 5
 bidNumbers (busy d) = valued 6 d
 bidNumbers (held r) = valued 7 r
 
+-- each value of a question to a stored plan
+unfoldable pub locationNumbers : Location → Told
+locationNumbers (in-forbidden i) = valued 9 i
+locationNumbers (in-unsafe i) = valued 10 i
+locationNumbers in-neither = plain 11
+
 -- a set that is read: kind 1 with its grid
 abbrev pub tellReading : Reading → Told
 tellReading = tell (λ s. valued 1 (size (lengthsOf s)))
@@ -53,6 +60,10 @@ tellBid = tell bidNumbers
 
 abbrev pub tellAgain : Answer Again → Told
 tellAgain = tell (λ v. plain 8)
+
+-- a question to a stored plan, with the index of the box's first word
+abbrev pub tellLocation : Answer Location → Told
+tellLocation = tell locationNumbers
 
 -- how a host hears an answer: kind 0 as a refusal, any other kind as a value of the call that it made
 unfoldable pub hear : {A : Type 0} → (Told → A) → Told → Answer A
@@ -76,3 +87,13 @@ hearBid = hear bidHeard
 
 abbrev pub hearAgain : Told → Answer Again
 hearAgain = hear (λ a. restarted)
+
+-- of a question the kind tells which value
+unfoldable pub locationHeard : Told → Location
+locationHeard a =
+    cond (eqb (a .kind) 9) (in-forbidden (a .value))
+    (cond (eqb (a .kind) 10) (in-unsafe (a .value))
+    in-neither)
+
+abbrev pub hearLocation : Told → Answer Location
+hearLocation = hear locationHeard

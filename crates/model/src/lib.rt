@@ -91,3 +91,8 @@ pub const NOT_AT_END: u8 = 19;
 pub const NO_ROUTE: u8 = 20;
 
 pub const ROUTE_TOO_SHORT: u8 = 21;
+
+// The refusals of a stored plan.
+pub const BAD_TASK_COUNT: u8 = 22;
+
+pub const OUTSIDE_LAYOUT: u8 = 23;

@@ -1,16 +1,15 @@
 -- What stands in a lent slice, by what the calls below answer: the lines of a plan, or a refusal's.
-use Prim.Native.Nat.{ℕ, _*_, _/_, _<_, _≤_, min}
+use Prim.Native.Nat.{ℕ, _*_, _/_, _≤_, min}
 use native.Mathlib.Omega.{arith}
 use mathlib.Core.Path.{_≡_, sym, ap, ap₂, _∙_}
 use mathlib.Core.List.{List}
 use lib.ListN.{length, take, drop}
 use lib.Seq.{take-all, take-take, take-at}
-use borrow.Author.Tests.{lt-ltb, le-ltb}
-use Rattle.model.specs.Answer.{Answer, given, refused, _then_, ifGiven}
+use Rattle.model.specs.Answer.{given, refused, _then_, ifGiven}
 use Rattle.model.specs.Slice.{over}
 use Rattle.model.specs.Read.{read}
 use Rattle.model.specs.Analysis.{Analysed, analyse}
-use Rattle.model.specs.Printed.{wordsIn, wordsOf, toPrint, linesOf, refusalLine, textOf, printed, TEXT, Shown, shown, printedIn}
+use Rattle.model.specs.Printed.{wordsIn, wordsOf, toPrint, linesOf, Shown, shown}
 use Rattle.model.proofs.ToPrint.{planned, turned-back}
 use Rattle.model.proofs.PrintedLength.{length-lines}
 use Rattle.analysis.specs.declared.Outcome.{Outcome}
@@ -51,21 +50,3 @@ file-words bs room after k e n h a =
     let ws = wordsIn bs in
     let left : after ≡ take (length room) (over ws room) = rw e at a in
     ap (take k) left ∙ take-take k (length room) (over ws room) h ∙ take-at ws (drop (length ws) room) k (sym n)
-
--- what is printed, by what the bytes are
-pub of-words : (bs ws : List ℕ) → wordsOf bs ≡ given ws → printed bs ≡ textOf (read ws then toPrint)
-unfolding _then_
-of-words bs ws e = ap textOf (ap (λ (a : Answer (List ℕ)). a then λ ws. read ws then toPrint) e)
-
-pub of-none : (bs : List ℕ) (n p : ℕ) → wordsOf bs ≡ refused n p → printed bs ≡ refusalLine n p
-unfolding _then_ textOf
-of-none bs n p e = ap textOf (ap (λ (a : Answer (List ℕ)). a then λ ws. read ws then toPrint) e)
-
--- a slice that is long enough, and one that is not
-pub long-enough : (bs slice : List ℕ) → TEXT ≤ length slice → shown (printed bs) slice ≡ printedIn bs slice
-unfolding printedIn
-long-enough bs slice h = rw (le-ltb (length slice) TEXT h)
-
-pub too-short : (bs slice : List ℕ) → length slice < TEXT → bytes-of 0 slice ≡ printedIn bs slice
-unfolding printedIn
-too-short bs slice h = rw (lt-ltb (length slice) TEXT h)

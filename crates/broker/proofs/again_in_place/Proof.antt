@@ -42,6 +42,7 @@ use denote.Triple.Clauses.{ensured, lasts}
 use denote.Triple.Table.{entered, cited}
 use denote.Triple.Walked.{says, Stays, stay-ref, stay-none-slice, walkOf, AllGo, goes-ref, goes-none-slice, Walks, ends-at, walked, walk-meets}
 use denote.Exit.{yes}
+use Rattle.model.proofs.ByHand.{hears}
 use Rattle.model.specs.Broker as model
 use Rattle.broker.specs.Says.{servedAgainOf}
 use Rattle.records.specs.Says.{recordOf}
@@ -54,7 +55,7 @@ use Rattle.broker.proofs.ServedAgain as S
 use Rattle.broker.proofs.ServedAgain.Laws as S′
 use Rattle.broker.proofs.AgainAnswer as E
 use Rattle.broker.proofs.AgainAnswer.Laws as E′
-use Rattle.broker.proofs.InPlace.{mach, takes-out, puts-back, hears}
+use Rattle.broker.proofs.InPlace.{mach, takes-out, puts-back}
 use Rattle.broker.proofs.again as call
 use Rattle.broker.proofs.again.Symbol as call-def
 use Rattle.broker.proofs.again.Symbol.{name as #broker·again}

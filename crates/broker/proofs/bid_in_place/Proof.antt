@@ -44,6 +44,7 @@ use denote.Triple.Table.{entered, cited}
 use denote.Triple.Walked.{says, Stays, stay-ref, stay-none, stay-none-slice, walkOf, AllGo, goes-ref, goes-none, goes-none-slice, Walks, ends-at, walked}
 use denote.Triple.Walked.{walk-meets}
 use denote.Exit.{yes}
+use Rattle.model.proofs.ByHand.{hears}
 use Rattle.model.specs.Broker as model
 use Rattle.broker.specs.Says.{servedBidOf}
 use Rattle.records.specs.Says.{recordOf}
@@ -56,7 +57,7 @@ use Rattle.broker.proofs.ServedBid as S
 use Rattle.broker.proofs.ServedBid.Laws as S′
 use Rattle.broker.proofs.BidAnswer as E
 use Rattle.broker.proofs.BidAnswer.Laws as E′
-use Rattle.broker.proofs.InPlace.{mach, takes-out, puts-back, hears}
+use Rattle.broker.proofs.InPlace.{mach, takes-out, puts-back}
 use Rattle.broker.proofs.bid as call
 use Rattle.broker.proofs.bid.Symbol as call-def
 use Rattle.broker.proofs.bid.Symbol.{name as #broker·bid}

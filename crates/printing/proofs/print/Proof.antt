@@ -9,7 +9,8 @@ use Rattle.model.specs.Answer.{given, _then_}
 use Rattle.model.specs.Read.{read}
 use Rattle.model.specs.Printed.{wordsIn, wordsOf, toPrint, textOf, shown}
 use Rattle.listing.proofs.Callers.{word-count, as-refused}
-use Rattle.printing.proofs.Shown.{bytes-of, file-words, of-words, of-none, long-enough, too-short}
+use Rattle.model.proofs.ToPrint.{of-words, of-none, long-enough, too-short}
+use Rattle.printing.proofs.Shown.{bytes-of, file-words}
 use Rattle.printing.proofs.print.Statement.{statement}
 use Rattle.printing.proofs.print.Tie as tie
 
