@@ -2,6 +2,7 @@
 // take. bench/run builds and runs it. It prints lines with tabs between, which bench/tables.py and bench/growth.py turn into the tables of docs/PERFORMANCE.md:
 //
 //     bench calls FILE..      for each set and call: set, words, call, answer, and nanoseconds of both
+//     bench questions FILE..  for each set's plan and some states: set, tasks, plan words, where the state lies, answer, and nanoseconds of both
 //     bench growth FILE..     for each set file FAMILY-SIZE.set: family, size, states, plan words, and nanoseconds of both analyses
 //     bench stack FILE..      for each call: its name, and the most bytes of stack that it took on any of the sets
 //
@@ -50,12 +51,24 @@ fn of_length(kind: u32, answer: Result<usize, baseline::Refusal>) -> Answer {
     answer.map_or_else(refused, |length| plain(kind, length as u64))
 }
 
+fn of_question(answer: Result<baseline::Located, baseline::Refusal>) -> Answer {
+    match answer {
+        Ok(baseline::Located::Forbidden(index)) => plain(sys::IN_FORBIDDEN_BOX, index as u64),
+        Ok(baseline::Located::Unsafe(index)) => plain(sys::IN_UNSAFE_BOX, index as u64),
+        Ok(baseline::Located::Neither) => plain(sys::IN_NO_BOX, 0),
+        Err(refusal) => refused(refusal),
+    }
+}
+
 fn text(answer: &Answer) -> String {
     match answer.kind {
         sys::REFUSED => format!("refused {}", answer.refusal),
         sys::ACCEPTED => "accepted".to_string(),
         sys::PLANNED => format!("{} word{}", answer.value, if answer.value == 1 { "" } else { "s" }),
         sys::ROUTED => format!("{} steps", answer.value),
+        sys::IN_FORBIDDEN_BOX => format!("forbidden, word {}", answer.value),
+        sys::IN_UNSAFE_BOX => format!("unsafe, word {}", answer.value),
+        sys::IN_NO_BOX => "neither".to_string(),
         _ => "restarted".to_string(),
     }
 }
@@ -84,6 +97,10 @@ fn again(record: &mut sys::Record, words: &[u32]) -> Answer {
 
 fn route(record: sys::Record, words: &[u32], map: &[u8], slice: &mut [u8]) -> Answer {
     unsafe { sys::arbiter_route(record, words.as_ptr(), words.len(), map.as_ptr(), map.len(), slice.as_mut_ptr(), slice.len()) }
+}
+
+fn locate(state: sys::State, plan: &[u32], tasks: usize) -> Answer {
+    unsafe { sys::arbiter_locate(state, plan.as_ptr(), plan.len(), tasks) }
 }
 
 // --- Timing ---
@@ -304,8 +321,58 @@ fn lines_of(file: &str) -> Vec<Line> {
     lines
 }
 
-fn calls(files: &[String]) {
-    let pass = || files.iter().flat_map(|file| lines_of(file)).collect::<Vec<Line>>();
+/// The plan of a set and its task count; of a refused set no words and one task.
+fn stored_plan(words: &[u32]) -> (Vec<u32>, usize) {
+    let (mut map, mut plan) = (vec![UNWRITTEN; MAP], vec![0u32; PLAN]);
+    let answer = analyse(words, &mut map, &mut plan);
+    plan.truncate(if answer.kind == sys::PLANNED { answer.value as usize } else { 0 });
+    (plan, baseline::read(words).map_or(1, |set| set.tasks))
+}
+
+/// States to ask a plan at, by where they lie: the start, which is in no box, and the corners of the highest positions of the first and of the last box. The last of the
+/// forbidden boxes may share its corner with an earlier one, which the answer then tells; an unsafe box doesn't.
+fn states_to_ask(plan: &[u32], tasks: usize) -> Vec<(&'static str, sys::State)> {
+    let heads: Vec<usize> = (0..plan.len()).filter(|&at| matches!(plan[at] >> 28, sys::FORBIDDEN_BOX | sys::UNSAFE_BOX)).collect();
+    let corner = |head: usize| {
+        let mut positions = [0; sys::MAX_TASKS];
+        for (position, &side) in positions.iter_mut().zip(&plan[head + 1..head + 1 + tasks]) {
+            *position = side as u8;
+        }
+        sys::State { positions }
+    };
+    let mut states = vec![("in no box", sys::State { positions: [0; sys::MAX_TASKS] })];
+    if let (Some(&first), Some(&last)) = (heads.first(), heads.last()) {
+        states.push(("in the first box", corner(first)));
+        states.push(("in the last box", corner(last)));
+    }
+    states
+}
+
+/// Questions to the plan of one set.
+fn questions_on(file: &str) -> Vec<Line> {
+    let words = words_in(file);
+    let (plan, tasks) = stored_plan(&words);
+    let (set, plan) = (name_of(file), &plan[..]);
+    let mut lines = Vec::new();
+    for (place, state) in states_to_ask(plan, tasks) {
+        let answer = locate(state, plan, tasks);
+        assert!(answer == of_question(baseline::locate(&state.positions, plan, tasks)), "bench: {set}, {place}: the two differ");
+        let times = best_of(
+            || {
+                let _ = black_box(locate(black_box(state), black_box(plan), tasks));
+            },
+            || {
+                black_box(baseline::locate(&black_box(state).positions, black_box(plan), tasks)).ok();
+            },
+        );
+        lines.push(Line { text: format!("{set}\t{tasks}\t{}\t{place}\t{}", plan.len(), text(&answer)), times });
+    }
+    lines
+}
+
+/// The lines that each file has, with the best times of several passes over all.
+fn best_lines(files: &[String], lines: impl Fn(&str) -> Vec<Line>) {
+    let pass = || files.iter().flat_map(|file| lines(file)).collect::<Vec<Line>>();
     let mut best = pass();
     for _ in 1..PASSES {
         for (line, other) in best.iter_mut().zip(pass()) {
@@ -315,6 +382,14 @@ fn calls(files: &[String]) {
     for Line { text, times: (proved, yardstick) } in best {
         println!("{text}\t{proved:.2}\t{yardstick:.2}");
     }
+}
+
+fn calls(files: &[String]) {
+    best_lines(files, lines_of);
+}
+
+fn questions(files: &[String]) {
+    best_lines(files, questions_on);
 }
 
 fn growth(files: &[String]) {
@@ -362,8 +437,8 @@ fn stack_of(call: impl FnOnce() -> Answer) -> usize {
 }
 
 fn stack(files: &[String]) {
-    let names = ["arbiter_analyse", "arbiter_read", "arbiter_bid", "arbiter_again", "arbiter_route"];
-    let mut most = [0; 5];
+    let names = ["arbiter_analyse", "arbiter_read", "arbiter_bid", "arbiter_again", "arbiter_route", "arbiter_locate"];
+    let mut most = [0; 6];
     for file in files {
         let words = &words_in(file)[..];
         let (map, tasks, end) = service(words);
@@ -381,6 +456,10 @@ fn stack(files: &[String]) {
         }
         let mut record = end;
         taken(3, stack_of(|| again(&mut record, words)));
+        let (plan, tasks) = stored_plan(words);
+        for (_, state) in states_to_ask(&plan, tasks) {
+            taken(5, stack_of(|| locate(state, &plan, tasks)));
+        }
     }
     for (name, bytes) in names.iter().zip(most) {
         println!("{name}\t{bytes}");
@@ -394,6 +473,7 @@ fn main() {
         let arguments: Vec<String> = std::env::args().skip(1).collect();
         match arguments[0].as_str() {
             "growth" => growth(&arguments[1..]),
+            "questions" => questions(&arguments[1..]),
             "stack" => stack(&arguments[1..]),
             _ => calls(&arguments[1..]),
         }

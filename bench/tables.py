@@ -1,5 +1,5 @@
 #!/usr/bin/env python3
-"""tables.py calls|stack: reads the lines of `bench calls` or `bench stack` on standard input and prints them as the tables of docs/PERFORMANCE.md."""
+"""tables.py calls|questions|stack: reads the lines of `bench calls`, `bench questions` or `bench stack` on standard input and prints them as the tables of docs/PERFORMANCE.md."""
 import sys
 
 CALLS = ("read", "bid", "again", "route")
@@ -31,6 +31,14 @@ def print_calls(rows):
         print_row(name, words, *(cells.get(call, "") for call in CALLS))
 
 
+def print_questions(rows):
+    """A row a state, and what a plan word costs."""
+    print_head("plan of", "tasks", "words", "state", "answer", "proved, µs", "yardstick, µs", "ratio", "ns a word")
+    for name, tasks, words, place, answer, proved, yardstick in rows:
+        times = ("%.2f" % (proved / 1e3), "%.2f" % (yardstick / 1e3), "%.2f" % (proved / yardstick), "%.1f" % (proved / int(words)))
+        print_row(name, tasks, words, place, answer, *times)
+
+
 lines = [line.rstrip("\n").split("\t") for line in sys.stdin]
 if sys.argv[1] == "calls":
     measured = [(*line[:4], float(line[4]), float(line[5])) for line in lines]
@@ -38,6 +46,9 @@ if sys.argv[1] == "calls":
     print_analyses(measured)
     print("\n## The calls in service\n")
     print_calls(measured)
+elif sys.argv[1] == "questions":
+    print("\n## Questions to a stored plan\n")
+    print_questions([(*line[:5], float(line[5]), float(line[6])) for line in lines])
 else:
     print("\n## Stack\n")
     print_head("call", "most measured on the sets above, bytes")

@@ -3,8 +3,9 @@
 
 The same names with the same values must stand in all three, none missing and none left over: X in the source, ARBITER_X in C, X in Rust; in the
 source and in Rust with the same type. So must the calls, each marked in C as one whose answer must be used. The refusals' texts must be the same in
-C and Rust. ROOT is the repository, by default the one that this file is in.
+C and Rust. The host in Python has all calls, and what numbers it has are these. ROOT is the repository, by default the one that this file is in.
 """
+import importlib.util
 import re
 import sys
 from pathlib import Path
@@ -25,11 +26,12 @@ MAP_BYTES = "OPEN FORBIDDEN UNSAFE DEAD".split()
 REFUSALS = """
     NO_WORDS TOO_MANY_WORDS WORD_AFTER_END UNKNOWN_KIND OUT_OF_ORDER FIELD_NOT_ALLOWED TOO_MANY CLAIM_OF_HELD RELEASE_OF_NOT_HELD STILL_HELD NO_END
     GRID_TOO_LARGE MAP_TOO_SHORT PLAN_TOO_SHORT BYTES_NOT_WORDS BAD_RECORD NO_SUCH_TASK BAD_MAP_BYTE NOT_AT_END NO_ROUTE ROUTE_TOO_SHORT
+    BAD_TASK_COUNT OUTSIDE_LAYOUT
     """.split()
 
 # The kinds of an answer, and the version: major times 10,000, minor times 100, patch.
-ANSWER_KINDS = "REFUSED ACCEPTED PLANNED ROUTED GRANTED FINISHED BUSY HELD RESTARTED".split()
-VERSION = {"VERSION": 10000}
+ANSWER_KINDS = "REFUSED ACCEPTED PLANNED ROUTED GRANTED FINISHED BUSY HELD RESTARTED IN_FORBIDDEN_BOX IN_UNSAFE_BOX IN_NO_BOX".split()
+VERSION = {"VERSION": 10100}
 
 # What hosts use and the proved source doesn't know: in the header, and in the package's plain.rs.
 OF_HOSTS = {"NOT_ANALYSED": 0xFF}
@@ -109,6 +111,16 @@ def of_calls(paths, pattern, where):
     return once([(name, name) for name in re.findall(rf"^\s*{pattern}(arbiter_\w+)\(", text, re.M)], where)
 
 
+def of_python(path):
+    """The numbers of the host in Python, and its calls but for the text, which isn't the library's."""
+    sys.dont_write_bytecode = True
+    spec = importlib.util.spec_from_file_location(path.stem, path)
+    module = importlib.util.module_from_spec(spec)
+    spec.loader.exec_module(module)
+    numbers = {name: value for name, value in vars(module).items() if name.isupper() and isinstance(value, int)}
+    return numbers, {name: name for name in module.CALLS if name != "arbiter_refusal_text"}
+
+
 def camel(name):
     return "".join(part.capitalize() for part in name.split("_"))
 
@@ -131,11 +143,16 @@ def main(root):
     compare(of_calls([header], r"ARBITER_MUST_USE \w+ ", "arbiter.h"), calls, "arbiter.h", "call that must be used")
     compare(of_calls([root / "hosts/rust/src/sys.rs"], r"pub fn ", "sys.rs"), calls, "sys.rs", "call")
 
+    python_numbers, python_calls = of_python(root / "hosts/python/serve.py")
+    known = {**WANTED, **OF_HOSTS}
+    compare(python_numbers, {name: known[name] for name in python_numbers.keys() & known.keys()}, "serve.py")
+    compare(python_calls, calls, "serve.py", "call")
+
     variants = once(re.findall(r"^\s*(\w+) = sys::(\w+),", safe.read_text(), re.M), "lib.rs")
     compare(variants, {camel(name): name for name in REFUSALS}, "lib.rs", "number")
     all_texts = once(re.findall(r'case ARBITER_(\w+):\s*return "([^"]*)";', header.read_text()), "arbiter.h")
     kind_texts = {name: text for name, text in all_texts.items() if name in ANSWER_KINDS}
-    compare(kind_texts, {name: name.lower() for name in ANSWER_KINDS}, "arbiter.h", "text")
+    compare(kind_texts, {name: name.lower().replace("_", " ") for name in ANSWER_KINDS}, "arbiter.h", "text")
     texts = {name: text for name, text in all_texts.items() if name not in kind_texts}
     rust_texts = once(re.findall(r'Refusal::(\w+) =>\s*\{?\s*"([^"]*)"', safe.read_text()), "lib.rs")
     compare(texts, {name: texts.get(name, "") for name in REFUSALS}, "arbiter.h", "text")

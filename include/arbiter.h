@@ -2,7 +2,8 @@
  *
  * A set is a list of 32-bit words that says which devices there are and in which order each task claims and releases them
  * (docs/AUTHORS.md). arbiter_analyse writes its map, a byte for each state of progress, and its plan, a list of boxes. In service
- * arbiter_bid is asked before every step of a task and says whether it may be made now. docs/HOSTS.md tells the whole life of a set.
+ * arbiter_bid is asked before every step of a task and says whether it may be made now. arbiter_locate questions a plan that was stored, without
+ * its set. docs/HOSTS.md tells the whole life of a set.
  *
  * What every call does and asks:
  * - It uses no heap, no global state, no signal and no callback, and always returns. arbiter_analyse needs some 300 KiB of stack, the others
@@ -32,13 +33,13 @@
 
 /* The version of this header: major times 10,000, minor times 100, patch. Header and library must be of the same one, since structs and
  * numbers may differ between two: compare it with arbiter_version() once, when the host starts, and stop if they differ. */
-#define ARBITER_VERSION 10000
+#define ARBITER_VERSION 10100
 
 /* The limits of a set. */
 #define ARBITER_MAX_WORDS 4096
 #define ARBITER_MAX_DEVICES 16
 #define ARBITER_MAX_CAPACITY 8
-#define ARBITER_MAX_TASKS 8     /* also the number of positions in a record */
+#define ARBITER_MAX_TASKS 8     /* also the number of positions in a record and in a state */
 #define ARBITER_MAX_ACTIONS 255 /* claims and releases of one task */
 #define ARBITER_MAX_GRID 65536  /* states: a map slice of this many bytes fits every set */
 
@@ -76,15 +77,18 @@
  * arbiter_positions turns a rank into positions, arbiter_rank positions into a rank. */
 
 /* The kinds of an answer. An answer that is all zeros is a refusal, so that one never filled in can't pass for a grant. */
-#define ARBITER_REFUSED 0   /* the call was turned back; refusal: why; value: the place, see the refusals */
-#define ARBITER_ACCEPTED 1  /* arbiter_read: the set is well formed; value: its number of states, the map's length */
-#define ARBITER_PLANNED 2   /* arbiter_analyse: map and plan are written; value: the number of plan words */
-#define ARBITER_ROUTED 3    /* arbiter_route: the route is written; value: its length */
-#define ARBITER_GRANTED 4   /* arbiter_bid: the task makes its next action now; the record has moved on by it */
-#define ARBITER_FINISHED 5  /* arbiter_bid: the task has no action left; don't ask for it before arbiter_again */
-#define ARBITER_BUSY 6      /* arbiter_bid: the task waits and asks again later; value: the device that is in use */
-#define ARBITER_HELD 7      /* arbiter_bid: the task waits and asks again later, or tasks would wait for ever; value: the unsafe next state's rank */
-#define ARBITER_RESTARTED 8 /* arbiter_again: every task is at its start again */
+#define ARBITER_REFUSED 0          /* the call was turned back; refusal: why; value: the place, see the refusals */
+#define ARBITER_ACCEPTED 1         /* arbiter_read: the set is well formed; value: its number of states, the map's length */
+#define ARBITER_PLANNED 2          /* arbiter_analyse: map and plan are written; value: the number of plan words */
+#define ARBITER_ROUTED 3           /* arbiter_route: the route is written; value: its length */
+#define ARBITER_GRANTED 4          /* arbiter_bid: the task makes its next action now; the record has moved on by it */
+#define ARBITER_FINISHED 5         /* arbiter_bid: the task has no action left; don't ask for it before arbiter_again */
+#define ARBITER_BUSY 6             /* arbiter_bid: the task waits and asks again later; value: the device that is in use */
+#define ARBITER_HELD 7             /* arbiter_bid: the task waits and asks again later, or tasks would wait for ever; value: the unsafe next state's rank */
+#define ARBITER_RESTARTED 8        /* arbiter_again: every task is at its start again */
+#define ARBITER_IN_FORBIDDEN_BOX 9 /* arbiter_locate: a forbidden box holds the state; value: the index of the first word of the first that does */
+#define ARBITER_IN_UNSAFE_BOX 10   /* arbiter_locate: an unsafe box holds the state, and no forbidden one; value: the same of the first that does */
+#define ARBITER_IN_NO_BOX 11       /* arbiter_locate: no box holds the state */
 
 /* The refusals of a set. The place is the faulty word's index, counted from 0, unless said otherwise.
  * All are the set's fault, and each comes in the same way from every call that is lent that set: return it to its author. */
@@ -112,6 +116,11 @@
 #define ARBITER_NO_ROUTE 20        /* place: the state's rank; the state is unsafe: no record in service ever is */
 #define ARBITER_ROUTE_TOO_SHORT 21 /* place: the length that the route needs; lend that much */
 
+/* The refusals of a stored plan. */
+#define ARBITER_BAD_TASK_COUNT 22 /* place: 0; the task count isn't 1 to 8: the host's slip */
+#define ARBITER_OUTSIDE_LAYOUT 23 /* place: the first word that no plan has there, or the number of words if END is missing; the plan was cut or
+                                   * damaged, or isn't one for so many tasks */
+
 /* What a call answers. refusal is 0 exactly where kind is not ARBITER_REFUSED. value is what the kind says, and 0 where it says nothing. */
 typedef struct {
     uint32_t kind;
@@ -126,7 +135,12 @@ typedef struct {
     uint32_t grants;
 } arbiter_record;
 
-/* The compiler must lay both out as the library does. */
+/* A state to question a stored plan with: for each task how many of its actions are done. Positions past the task count are unread. */
+typedef struct arbiter_state {
+    uint8_t positions[ARBITER_MAX_TASKS];
+} arbiter_state;
+
+/* The compiler must lay all three out as the library does. */
 #if defined(__cplusplus) && __cplusplus >= 201103L
 #define ARBITER_ASSERT(name, condition) static_assert(condition, #name)
 #elif !defined(__cplusplus) && defined(__STDC_VERSION__) && __STDC_VERSION__ >= 201112L
@@ -141,6 +155,8 @@ ARBITER_ASSERT(place_of_value, offsetof(arbiter_answer, value) == 8);
 ARBITER_ASSERT(size_of_record, sizeof(arbiter_record) == 12);
 ARBITER_ASSERT(place_of_positions, offsetof(arbiter_record, positions) == 0);
 ARBITER_ASSERT(place_of_grants, offsetof(arbiter_record, grants) == 8);
+ARBITER_ASSERT(size_of_state, sizeof(arbiter_state) == 8);
+ARBITER_ASSERT(place_of_state_positions, offsetof(arbiter_state, positions) == 0);
 ARBITER_ASSERT(size_of_length, sizeof(size_t) == 8);
 #undef ARBITER_ASSERT
 
@@ -209,6 +225,16 @@ ARBITER_MUST_USE arbiter_answer arbiter_again(arbiter_record *record, const uint
  * Slices that may be empty: ARBITER_LEND(set), ARBITER_LEND(map), ARBITER_LEND(route). */
 ARBITER_MUST_USE arbiter_answer arbiter_route(arbiter_record record, const uint32_t *set, size_t set_len, const uint8_t *map, size_t map_len,
                                               uint8_t *route, size_t route_len);
+
+/* Where does this state lie in a plan for so many tasks? IN_FORBIDDEN_BOX or IN_UNSAFE_BOX with the index of the box's first word, forbidden
+ * boxes first and of each kind the first that holds the state; IN_NO_BOX; or REFUSED 22 or 23, whatever the state.
+ * It needs the plan's words up to and with END, and no more than that: no set, map or record. The words are looked at to the last before any of
+ * them is answered from, so what is answered is true of the whole plan. Positions past the task count are unread; no position is wrong by
+ * itself, and one above every box lies in none. Nothing is written.
+ * For the plan that arbiter_analyse wrote, and a state of its set: IN_FORBIDDEN_BOX where the map has FORBIDDEN, IN_UNSAFE_BOX where it has UNSAFE
+ * or DEAD, IN_NO_BOX where it has OPEN. Whose plan it is, the words don't say.
+ * A plan that may be empty: ARBITER_LEND(plan). arbiter_next_box tells the box at the index. */
+ARBITER_MUST_USE arbiter_answer arbiter_locate(arbiter_state state, const uint32_t *plan, size_t plan_len, size_t tasks);
 
 #ifdef __cplusplus
 }
@@ -328,6 +354,13 @@ static inline int arbiter_positions(const uint32_t *set, size_t set_len, uint64_
     return rank == 0;
 }
 
+/* The record's state, to question a plan with. */
+static inline arbiter_state arbiter_state_of(const arbiter_record *record) {
+    arbiter_state state;
+    for (size_t task = 0; task < ARBITER_MAX_TASKS; task++) state.positions[task] = record->positions[task];
+    return state;
+}
+
 /* A box of a plan: the states in which every task's position is between its low and its high, both included. */
 typedef struct {
     uint32_t kind;   /* ARBITER_FORBIDDEN_BOX or ARBITER_UNSAFE_BOX */
@@ -338,7 +371,8 @@ typedef struct {
 } arbiter_box;
 
 /* Writes the box that starts at plan[*at], moves *at behind it and gives 1; gives 0 and changes nothing where no box starts, so after the last.
- * For all boxes: size_t at = 0; while (arbiter_next_box(plan, plan_len, &at, &box)) .. Then plan[at] is the first DEAD_STATE, or END. */
+ * For all boxes: size_t at = 0; while (arbiter_next_box(plan, plan_len, &at, &box)) .. Then plan[at] is the first DEAD_STATE, or END.
+ * For the box that arbiter_locate answers: size_t at = answer.value. */
 static inline int arbiter_next_box(const uint32_t *plan, size_t plan_len, size_t *at, arbiter_box *box) {
     if (*at >= plan_len) return 0;
     uint32_t kind = arbiter_word_kind(plan[*at]);
@@ -369,6 +403,9 @@ static inline const char *arbiter_kind_text(uint32_t kind) {
     case ARBITER_BUSY: return "busy";
     case ARBITER_HELD: return "held";
     case ARBITER_RESTARTED: return "restarted";
+    case ARBITER_IN_FORBIDDEN_BOX: return "in forbidden box";
+    case ARBITER_IN_UNSAFE_BOX: return "in unsafe box";
+    case ARBITER_IN_NO_BOX: return "in no box";
     default: return "no answer has this kind";
     }
 }
@@ -397,6 +434,8 @@ static inline const char *arbiter_refusal_text(uint32_t refusal) {
     case ARBITER_NOT_AT_END: return "not every task is finished";
     case ARBITER_NO_ROUTE: return "no steps lead from this state to the end";
     case ARBITER_ROUTE_TOO_SHORT: return "the route has more steps than its slice has bytes";
+    case ARBITER_BAD_TASK_COUNT: return "a plan is for 1 to 8 tasks";
+    case ARBITER_OUTSIDE_LAYOUT: return "no plan for so many tasks goes on like this: it was cut or damaged, or is for another number of tasks";
     default: return "no refusal has this number";
     }
 }

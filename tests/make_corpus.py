@@ -19,6 +19,10 @@ into the two slices, then the calls are made in order, accepted or not, on what 
     5 LEND length                      later bids and routes are lent only that much of the map slice
     6 BID_IN_PLACE task                a bid over a record that is lent to it
     7 ROUNDS times, tasks, count       so many times the bids of the first `count` hexadecimal digits of `tasks`, the lowest digit first
+    8 LOCATE tasks, positions, positions  a question to the stored plan, which is the plan slice at first
+    9 STORE index, word                one word of the plan slice is replaced
+   10 KEEP length                      from now on only that much of the plan slice is the stored plan
+   11 SWEEP tasks, positions, positions  a question at every state up to those positions, the last task's fastest
 
 Output, a line each:
     case NUMBER: planned WORDS         or refused N at P
@@ -28,9 +32,14 @@ and for each call that prints
     ANSWER [POSITIONS] GRANTS          for a bid or an again: granted, finished, busy D, held R, restarted or refused N at P, and the record after it
     ANSWER:STEPS                       for a route: routed LENGTH or refused N at P; the whole slice, a digit a task, '.' for AA, 'x' for 255, '?' otherwise
     rounds G F B H R [POSITIONS] GRANTS  how many bids were granted, finished, busy, held and refused, and the record after them
-RECORD, POKE and LEND print nothing. The checksum is FNV-1a of 32 bits over the slice's bytes, a word's lowest byte first, in eight hexadecimal digits.
+    ANSWER                             for a question: forbidden INDEX, unsafe INDEX, neither or refused N at P
+    swept CHECKSUM:DIGITS              for a sweep: the checksum of the indices, a word each, 0 for none, P for a refusal; and for each state
+                                       1 forbidden, 2 unsafe, 0 neither, 'x' refused
+RECORD, POKE, LEND, STORE and KEEP print nothing. The checksum is FNV-1a of 32 bits over the slice's bytes, a word's lowest byte first, in eight hexadecimal digits.
 """
 
+import itertools
+import math
 import os
 import sys
 
@@ -42,8 +51,9 @@ MAX_MAP = 65600
 MAX_PLAN = 16400
 MAX_ROUTE = 512
 MAX_CALLS = 512
+MAX_SWEEP = 512
 
-BID, AGAIN, ROUTE, RECORD, POKE, LEND, BID_IN_PLACE, ROUNDS = range(8)
+BID, AGAIN, ROUTE, RECORD, POKE, LEND, BID_IN_PLACE, ROUNDS, LOCATE, STORE, KEEP, SWEEP = range(12)
 
 MAP_FILL, PLAN_FILL = 0xAA, 0xAAAAAAAA
 
@@ -109,6 +119,15 @@ def fnv(data):
     return value
 
 
+def word_bytes(words):
+    return b"".join(word.to_bytes(4, "little") for word in words)
+
+
+def positions_in(low, high):
+    """The eight positions that two words of a call give, a byte each."""
+    return tuple(word_bytes([low, high]))
+
+
 def map_text(slice_):
     if len(slice_) > 256:
         return "~%08X" % fnv(slice_)
@@ -117,7 +136,7 @@ def map_text(slice_):
 
 def plan_text(slice_):
     if len(slice_) > 32:
-        return " ~%08X" % fnv(b"".join(word.to_bytes(4, "little") for word in slice_))
+        return " ~%08X" % fnv(word_bytes(slice_))
     return "".join(" %08X" % word for word in slice_)
 
 
@@ -144,6 +163,7 @@ class Play:
         self.lines = []
         answer, map_, plan = brute.analyse(case.words, [MAP_FILL] * case.map_length, [PLAN_FILL] * case.plan_length)
         self.answer, self.map, self.lent = answer, map_, len(map_)
+        self.plan, self.kept = plan, len(plan)
         self.lines.append("case %d: %s" % (number, answer_text(answer)))
         self.lines.append("map:%s" % map_text(map_))
         self.lines.append("plan:%s" % plan_text(plan))
@@ -164,6 +184,14 @@ class Play:
                 counts[self.bid(tasks >> 4 * place & 15)[0]] += 1
         return "rounds %s" % " ".join(str(counts[name]) for name in counts)
 
+    def locate(self, state, tasks):
+        return brute.locate(state, self.plan[: self.kept], tasks)
+
+    def sweep(self, tasks, last):
+        answers = [self.locate(state, tasks) for state in itertools.product(*(range(position + 1) for position in last))]
+        marks = [{"neither": 0, "forbidden": 1, "unsafe": 2, "refused": 255}[answer[0]] for answer in answers]
+        return "swept %08X:%s" % (fnv(word_bytes(answer[-1] if answer[1:] else 0 for answer in answers)), route_text(marks))
+
     def call(self, kind, a, b, c):
         if kind in (BID, BID_IN_PLACE):
             self.lines.append("%s %s" % (answer_text(self.bid(a)), record_text(self.record)))
@@ -174,13 +202,21 @@ class Play:
             answer, steps = brute.route(self.words, self.map[: self.lent], self.record, [MAP_FILL] * a)
             self.lines.append("%s:%s" % (answer_text(answer), route_text(steps)))
         elif kind == RECORD:
-            self.record = Record(tuple(a.to_bytes(4, "little") + b.to_bytes(4, "little")), c)
+            self.record = Record(positions_in(a, b), c)
         elif kind == POKE:
             self.map = self.map[:a] + [b] + self.map[a + 1 :]
         elif kind == LEND:
             self.lent = a
         elif kind == ROUNDS:
             self.lines.append("%s %s" % (self.rounds(a, b, c), record_text(self.record)))
+        elif kind == LOCATE:
+            self.lines.append(answer_text(self.locate(positions_in(b, c), a)))
+        elif kind == STORE:
+            self.plan = self.plan[:a] + [b] + self.plan[a + 1 :]
+        elif kind == KEEP:
+            self.kept = a
+        elif kind == SWEEP:
+            self.lines.append(self.sweep(a, positions_in(b, c)))
 
 
 # --- Sets ---
@@ -339,9 +375,13 @@ def large_sets():
 # --- Calls ---
 
 
+def position_words(positions):
+    """Two words, a byte for each of up to eight positions."""
+    return tuple(sum(position << 8 * place for place, position in enumerate(part)) for part in (positions[:4], positions[4:]))
+
+
 def record_call(positions, grants):
-    low, high = (int.from_bytes(bytes(part), "little") for part in (positions[:4], positions[4:]))
-    return (RECORD, low, high, grants)
+    return (RECORD,) + position_words(positions) + (grants,)
 
 
 def any_task(dice, s):
@@ -466,6 +506,192 @@ def lend_calls(dice, s):
     return calls
 
 
+# --- Questions to stored plans ---
+
+
+def strewn(dice, positions):
+    """Eight positions that begin with these; the others, which are unread, are anything."""
+    return list(positions) + [dice.bits() & 255 for _ in range(8 - len(positions))]
+
+
+def locate_call(dice, tasks, positions):
+    return (LOCATE, tasks) + position_words(strewn(dice, positions))
+
+
+def boxes_in(plan):
+    """The (first, last) places of a plan's boxes."""
+    heads = [index for index, word in enumerate(plan) if brute.kind_of(word) in (6, 7)]
+    return [(head, head + sum(1 for _ in itertools.takewhile(lambda word: brute.kind_of(word) == 8, plan[head + 1 :]))) for head in heads]
+
+
+def own_plan_calls(s):
+    """Questions to the plan that the analysis left: at every state of a small grid, or else in the first and the last box, at the start and at the end."""
+    plan, tasks, lengths = brute.plan_of(s), len(s.tasks), lengths_of(s)
+    calls = [(KEEP, len(plan))]
+    if grid_of(s) <= MAX_SWEEP // 2:
+        return calls + [(SWEEP, tasks) + position_words(lengths)]
+    boxes = boxes_in(plan)
+    corners = [[word >> 8 & 255 for word in plan[head + 1 : last + 1]] for head, last in boxes[:1] + boxes[-1:]]
+    return calls + [(LOCATE, tasks) + position_words(state + [255] * (8 - tasks)) for state in corners + [[0] * tasks, list(lengths)]]
+
+
+def put(plan, place, *words):
+    """The plan with these words in the place of one; its END counts anew, where it still ends with one."""
+    changed = plan[:place] + list(words) + plan[place + 1 :]
+    return recounted(changed) if place < len(plan) - 1 else changed
+
+
+def recounted(plan):
+    return plan[:-1] + [END << 28 | len(plan) - 1]
+
+
+def spoilt_heads(dice, plan):
+    """Devices of 16 and more, a field in kind 7, unused bits, other kinds: at each box's first word."""
+    plans = []
+    for head, _ in boxes_in(plan):
+        word = plan[head]
+        plans += [put(plan, head, word & 0xF0000000 | field) for field in (16 | word & 15, 0x100, 1 << dice.between(4, 27), 0xFFFFFFF)]
+        plans += [put(plan, head, kind << 28) for kind in dice.mixed([0, 1, 2, 3, 4, 5, 8, 9, 10, 15])[:3]]
+        plans += [put(plan, head, 0x70000001)]
+    return plans
+
+
+def spoilt_sides(dice, plan):
+    """At each side: bounds exchanged, an unused bit, another task's side, the side twice, none, another kind."""
+    plans = []
+    for head, last in boxes_in(plan):
+        for place in range(head + 1, last + 1):
+            word = plan[place]
+            high = word & 255
+            plans += [put(plan, place, word & 0xFFFF0000 | low << 8 | high) for low in {min(255, high + 1), 255} if high < low]
+            plans += [put(plan, place, word ^ 1 << dice.between(24, 27)), put(plan, place, word ^ 1 << dice.between(16, 23))]
+            plans += [put(plan, place, word, word), put(plan, place), put(plan, place, dice.pick([0, 1, 5, 6, 7, 9, 10, 15]) << 28 | word & 0xFFFFFFF)]
+            if place < last:
+                plans.append(put(plan, place, plan[place + 1]))
+                plans.append(recounted(plan[:place] + [plan[place + 1], plan[place]] + plan[place + 2 :]))
+    return plans
+
+
+def spoilt_ranks(plan):
+    """Ranks that are equal or fall, and that stand before a box, behind END and in a box."""
+    body, ranks = plan[:-1], [word for word in plan if brute.kind_of(word) == 9]
+    top = ranks[-1] if ranks else 0x90000005
+    rises = body if ranks else body + [top]
+    lists = [rises + more for more in ([top], [top - 1], [top + 1, top + 1], [top + 1, top], [0x9FFFFFFF, 0x90000000], [top + 1, 0x9FFFFFFF])]
+    plans = [words + [END << 28 | len(words)] for words in lists + [[0x90000000] + body, [0x9FFFFFFF] + body]]
+    if len(ranks) > 1:
+        places = [index for index, word in enumerate(plan) if word in ranks]
+        plans += [put(plan, place, plan[place - 1]) for place in places[1:]]
+    return plans + [put(plan, last, plan[last], 0x90000000) for _, last in boxes_in(plan)] + [put(plan, head, plan[head], 0x90000000) for head, _ in boxes_in(plan)]
+
+
+def spoilt_orders(plan):
+    """Boxes of the two kinds exchanged, a forbidden box behind ranks, END before its time."""
+    plans = []
+    boxes = boxes_in(plan)
+    for (head, last), (other, end) in zip(boxes, boxes[1:]):
+        plans.append(recounted(plan[:head] + plan[other : end + 1] + plan[last + 1 : other] + plan[head : last + 1] + plan[end + 1 :]))
+    for head, last in boxes[:1] + boxes[-1:]:
+        plans.append(recounted(plan[:-1] + plan[head : last + 1] + plan[-1:]))
+    return plans + [put(plan, place, END << 28 | place, plan[place]) for place in range(len(plan) - 1)]
+
+
+def spoilt_ends(dice, plan):
+    """A wrong count, words behind END, and plans cut at every place."""
+    count = len(plan) - 1
+    plans = [plan[:-1] + [END << 28 | (count + wrong) % 2**28] for wrong in (1, -1, 256, 1 << dice.between(9, 27))]
+    plans += [plan + more for more in ([END << 28 | len(plan)], [plan[-1]], [0x90000000 | 0xFFFFFFF], [0x60000000], [0], [0xFFFFFFFF, 0])]
+    return plans + [plan[:length] for length in range(len(plan))]
+
+
+def random_plan(dice, tasks):
+    """A plan of the layout that no set need have: boxes that overlap, in one kind and in both, any ranks."""
+    top = dice.pick([1, 2, 3, 5, 255])
+    words = []
+    for head in [0x60000000 | dice.below(16) for _ in range(dice.below(4))] + [0x70000000] * dice.below(4):
+        words.append(head)
+        for task in range(tasks):
+            low, high = sorted((dice.between(0, top), dice.between(0, top)))
+            words.append(0x80000000 | task << 16 | low << 8 | high)
+    ranks = {dice.below(4) if dice.one_in(2) else dice.bits() >> 4 for _ in range(dice.below(4))}
+    return closed(words + [0x90000000 | rank for rank in sorted(ranks)])
+
+
+def random_words(dice, tasks):
+    """Words that mostly belong in a plan, in any order."""
+    words = []
+    for index in range(dice.below(9)):
+        side = 0x80000000 | dice.below(tasks + 1) << 16 | dice.below(3) << 8 | dice.between(1, 3)
+        rank, end = 0x90000000 | dice.below(4), END << 28 | index + dice.pick([0, 0, 1])
+        words.append(dice.pick([0x60000000 | dice.below(17), 0x70000000, 0x70000000 | dice.below(2), side, side, side, rank, rank, end, dice.bits()]))
+    return words
+
+
+def edge_positions(dice, plan, tasks):
+    """A state at a corner of one of the boxes, or a step outside of it, or any."""
+    boxes = boxes_in(plan)
+    if not boxes or dice.one_in(4):
+        return [dice.pick([0, 1, 2, 255, dice.below(256)]) for _ in range(tasks)]
+    head, last = dice.pick(boxes)
+    positions = [dice.pick([word & 255, word >> 8 & 255]) for word in plan[head + 1 : last + 1]][:tasks]
+    if positions and dice.one_in(2):
+        place = dice.below(len(positions))
+        positions[place] = min(255, max(0, positions[place] + dice.pick([-1, 1])))
+    return positions
+
+
+def all_around(dice, plan, tasks):
+    """Questions to a plan of the layout: at every state of a small grid, at corners, for wrong task counts."""
+    side = {1: 7, 2: 7, 3: 7, 4: 3, 5: 2}.get(tasks, 1)
+    calls = [(SWEEP, tasks) + position_words([side] * tasks)] + [locate_call(dice, tasks, edge_positions(dice, plan, tasks)) for _ in range(6)]
+    wrong = [0, 9, 256 + tasks, 0x10000 + tasks, 0xFFFFFFFF] + [count for count in range(1, 9) if count != tasks]
+    return calls + [locate_call(dice, count, edge_positions(dice, plan, tasks)) for count in dice.mixed(wrong)[:4]]
+
+
+def store_calls(slice_, plan):
+    """Calls that put a plan over the front of the plan slice, which holds this now, and keep no more."""
+    return [(STORE, index, word) for index, word in enumerate(plan) if slice_[index] != word] + [(KEEP, len(plan))]
+
+
+def question_cases(s, asked):
+    """Cases on a set that store one plan after the other over its own, and make on each the calls that come with it."""
+    own = brute.plan_of(s)
+    fresh = brute.over(own, [PLAN_FILL] * max(len(plan) for plan in [own] + [plan for plan, _ in asked]))
+    calls, now = [], fresh
+    cases = [calls]
+    for plan, questions in asked:
+        more = store_calls(now, plan) + questions
+        if len(calls) + len(more) > MAX_CALLS:
+            calls = []
+            cases.append(calls)
+            more = store_calls(fresh, plan) + questions
+            now = fresh
+        calls += more
+        now = brute.over(plan, now)
+    return [Case(words_of(*s), grid_of(s), len(fresh), calls) for calls in cases]
+
+
+def stored_cases(dice):
+    """Damaged plans of known and random sets, random plans, and words at random."""
+    cases = []
+    small = [crossing(2), users(1, 2, 1), users(2, 3, 1), ring(2), written_set(SEVERAL_BLOCKERS[0]), Set([1], [[]] + users(1, 2, 1).tasks)]
+    for s in small + [tight_set(dice, 60) for _ in range(8)]:
+        plan, tasks = brute.plan_of(s), len(s.tasks)
+        if len(plan) > 48:
+            continue
+        spoilt = spoilt_heads(dice, plan) + spoilt_sides(dice, plan) + spoilt_ranks(plan) + spoilt_orders(plan) + spoilt_ends(dice, plan)
+        asked = [(words, [locate_call(dice, tasks, edge_positions(dice, plan, tasks))]) for words in dice.mixed(spoilt)[:90]]
+        asked += [(words, [locate_call(dice, count, [0] * 8) for count in (0, 9)]) for words in ([], plan, plan[:-1])]
+        cases += question_cases(s, asked)
+    least = Set([], [[]])
+    plans = []
+    for tasks in range(1, 9):
+        plans += [(plan, all_around(dice, plan, tasks)) for plan in (random_plan(dice, tasks) for _ in range(20))]
+        plans += [(words, [locate_call(dice, tasks, [1] * tasks)]) for words in (random_words(dice, tasks) for _ in range(40))]
+        plans += [(mutated(dice, random_plan(dice, tasks)), [locate_call(dice, tasks, [1] * tasks)]) for _ in range(40)]
+    return cases + question_cases(least, plans)
+
+
 # --- Word lists that are refused ---
 
 
@@ -566,7 +792,7 @@ def plan_length(s):
 def fitting(dice, s, calls, finishes=False):
     """A case whose slices are long enough, exactly or with room."""
     room, more = dice.pick([0, 0, 1, 3]), dice.pick([0, 0, 1, 2])
-    return Case(words_of(*s), min(MAX_MAP, grid_of(s) + room), plan_length(s) + more, calls, finishes)
+    return Case(words_of(*s), min(MAX_MAP, grid_of(s) + room), plan_length(s) + more, calls + own_plan_calls(s), finishes)
 
 
 def short_cases(dice, s):
@@ -645,7 +871,7 @@ def faulty_cases(dice):
 
 def all_cases():
     dice = Dice(SEED)
-    return named_cases(dice) + small_cases(dice) + faulty_cases(dice) + large_cases(dice)
+    return named_cases(dice) + small_cases(dice) + faulty_cases(dice) + large_cases(dice) + stored_cases(dice)
 
 
 def encoded(cases):
@@ -658,8 +884,11 @@ def encoded(cases):
             assert call[0] != ROUTE or call[1] <= MAX_ROUTE
             assert call[0] != POKE or call[1] < case.map_length
             assert call[0] != LEND or call[1] <= case.map_length
+            assert call[0] != STORE or call[1] < case.plan_length
+            assert call[0] != KEEP or call[1] <= case.plan_length
+            assert call[0] != SWEEP or math.prod(position + 1 for position in positions_in(*call[2:])) <= MAX_SWEEP
             words += call
-    return b"".join(word.to_bytes(4, "little") for word in words)
+    return word_bytes(words)
 
 
 def expected(cases):

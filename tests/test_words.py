@@ -29,7 +29,7 @@ D = """10000001 10000001 10000001 20000000 30000002 30000000 40000002 30000001 4
 A_PLAN = "60000000 80000103 80010202 60000001 80000202 80010103 70000000 80000101 80010101 90000006 5000000A"
 
 # The limits of a set, and how many refusals there are.
-DEVICES, TASKS, ACTIONS, WORDS, REFUSALS = 16, 8, 255, 4096, 21
+DEVICES, TASKS, ACTIONS, WORDS, REFUSALS = 16, 8, 255, 4096, 23
 
 Ended = namedtuple("Ended", "status output said")
 
@@ -114,6 +114,13 @@ class Reading(Case):
         self.assertEqual(len(blocks), 2)
         for block in blocks:
             self.assertEqual(self.words(block), words_in(A))
+
+    def test_plan_of_the_page(self):
+        """The page lists the plan of example a by its indices."""
+        with open(os.path.join(ROOT, "docs", "AUTHORS.md"), encoding="utf-8") as file:
+            page = file.read()
+        listed = re.findall(r"^ +([0-9]+) +([0-9A-F]{8})    +\S", page, re.M)
+        self.assertEqual(listed, [(str(index), word) for index, word in enumerate(A_PLAN.split())])
 
     def test_names(self):
         text = "DEVICE 1\nDEVICE 8\nTASK\nCLAIM 0\nCLAIM 10\nRELEASE 00010\nRELEASE 0\nEND\n"
@@ -254,6 +261,12 @@ class Words(Case):
         for index in ("x", "", "1" * 5000, "١"):
             self.assert_complaint(self.here(words, "--where", index, path), "is no word's index")
 
+    def test_printed_plans(self):
+        """A plan is words in digits too: its bytes, and the line of one of its words."""
+        path = self.file(lines_in(A_PLAN), "a.plan")
+        self.assertEqual(self.here(words, path), Ended(0, bytes_in(A_PLAN), ""))
+        self.assertEqual(self.here(words, "--where", "3", path), Ended(0, (path + ":4: 60000001\n").encode(), ""))
+
     def test_usage(self):
         for arguments in ([], ["a", "b"], ["--unknown", "a"], ["--wher", "0", "a"], ["--where"], ["a\nb", "c\nd"]):
             self.assert_complaint(self.here(words, *arguments), "; --help says how it is used")
@@ -338,7 +351,7 @@ class Plans(Case):
         self.assertEqual(len(set(sentences)), REFUSALS)
         self.assertEqual([text for text in sentences if "no sentence" in text], [])
         self.assertEqual(sentences[0], "the set is empty")
-        self.assertEqual(sentences[-1], "the route has more steps than its slice has bytes")
+        self.assertEqual(sentences[20], "the route has more steps than its slice has bytes")
         for number in (0, REFUSALS + 1):
             self.assertIn("no sentence", plan.sentence(number))
 

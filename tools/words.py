@@ -3,7 +3,7 @@
 
 A word a line: eight hexadecimal digits, behind which the rest of the line is a comment; or DEVICE n,
 TASK, CLAIM n, RELEASE n or END, with n in decimal, and END's count made by itself. From # on a line
-is a comment. Nothing is written if a line is wrong.
+is a comment. Nothing is written if a line is wrong. A plan as the printer prints it is such a text too.
 
 It ends with status 0, or with 2 and a line 'words.py: FILE:LINE: what is wrong' on standard error.
 It doesn't tell whether the set is accepted; plan.py does.

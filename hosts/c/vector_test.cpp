@@ -32,6 +32,12 @@ int main() {
     arbiter_answer route = arbiter_route(record, set.data(), set.size(), map.data(), map.size(), ARBITER_LEND(no_route.data()), 0);
     check(route.kind == ARBITER_ROUTED && route.value == 0, "an empty route");
 
+    const std::vector<uint32_t> plan = {0x50000000}, &no_plan_to_read = no_plan;
+    const arbiter_state state = {};
+    arbiter_answer empty = arbiter_locate(state, ARBITER_LEND(no_plan_to_read.data()), no_plan_to_read.size(), 1);
+    check(empty.refusal == ARBITER_OUTSIDE_LAYOUT && empty.value == 0, "locate without words");
+    check(arbiter_locate(state, ARBITER_LEND(plan.data()), plan.size(), 1).kind == ARBITER_IN_NO_BOX, "locate");
+
     check(ARBITER_LEND(no_plan.data()) != nullptr && ARBITER_LEND(map.data()) == map.data(), "the address that is lent");
     return 0;
 }

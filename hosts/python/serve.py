@@ -8,7 +8,7 @@ import sys
 from ctypes import POINTER, c_char_p, c_size_t, c_uint8, c_uint32, c_uint64
 
 # The numbers of include/arbiter.h that are used here.
-VERSION = 10000
+VERSION = 10100
 MAX_WORDS = 4096
 NOT_ANALYSED = 0xFF
 DEVICE, TASK, FORBIDDEN_BOX, UNSAFE_BOX, DEAD_STATE = 1, 2, 6, 7, 9
@@ -24,6 +24,10 @@ class Record(ctypes.Structure):
     _fields_ = [("positions", c_uint8 * 8), ("grants", c_uint32)]
 
 
+class State(ctypes.Structure):
+    _fields_ = [("positions", c_uint8 * 8)]
+
+
 WORDS, BYTES = [POINTER(c_uint32), c_size_t], [POINTER(c_uint8), c_size_t]  # a slice is its address and its number of elements
 CALLS = {
     "arbiter_version": ([], c_uint32),
@@ -33,6 +37,7 @@ CALLS = {
     "arbiter_bid": ([POINTER(Record)] + WORDS + BYTES + [c_size_t], Answer),
     "arbiter_again": ([POINTER(Record)] + WORDS, Answer),
     "arbiter_route": ([Record] + WORDS + BYTES + BYTES, Answer),
+    "arbiter_locate": ([State] + WORDS + [c_size_t], Answer),  # for hosts that keep plans, which this one doesn't
     "arbiter_refusal_text": ([c_uint32], c_char_p),
 }
 

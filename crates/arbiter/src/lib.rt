@@ -8,11 +8,18 @@ ghost use Rattle.model.specs.Analysis.{analyse};
 ghost use Rattle.model.specs.Record.{fresh};
 ghost use Rattle.model.specs.Broker.{bid, again};
 ghost use Rattle.model.specs.Route.{route};
-ghost use Rattle.model.specs.Told.{VERSION, tellReading, tellBid, tellAgain};
+ghost use Rattle.model.specs.StoredPlan.{locate};
+ghost use Rattle.model.specs.Told.{VERSION, tellReading, tellBid, tellAgain, tellLocation};
 ghost use Rattle.records.specs.Says.{recordOf};
 ghost use Rattle.arbiter.specs.Told.{structOf, ToldAnalysis, ToldServed, ToldRoute};
 use answers::Answer;
 use records::Record;
+
+// The state that a plan is asked about: eight positions, those past the task count unread.
+#[repr(C)]
+pub struct State {
+    pub positions: [u8; model::MAX_TASKS],
+}
 
 // The library's own version, for a host to compare with that of the header or package it was built with: structs and numbers may differ between versions.
 #[no_mangle]
@@ -68,4 +75,13 @@ pub extern "C" fn arbiter_route(rec: Record, set: &[u32], map: &[u8], steps: &mu
     ensures { λ r. ⌜ ToldRoute r (now (steps .exit)) (route (now (set .entry)) (now (map .entry)) (recordOf rec) (now (steps .entry))) ⌝ }
 {
     answers::of_route(route::route(set, map, rec, steps))
+}
+
+// Where a state lies in a stored plan of so many tasks, without its set.
+#[no_mangle]
+pub extern "C" fn arbiter_locate(state: State, plan: &[u32], tasks: usize) -> Answer
+    ensures { λ r. ⌜ r ≡ structOf (tellLocation (locate (state .positions) (now (plan .entry)) tasks)) ⌝ }
+{
+    let positions = state.positions;
+    answers::of_located(plan_reader::locate(positions, plan, tasks))
 }

@@ -3,6 +3,7 @@ use analysis::Outcome;
 use broker::AgainAnswer;
 use broker::BidAnswer;
 use libc::STDOUT_FILENO;
+use plan_reader::Located;
 
 pub fn text(bytes: &[u8]) {
     io::write_all(STDOUT_FILENO, bytes);
@@ -47,5 +48,15 @@ pub fn again(said: AgainAnswer) {
     match said {
         AgainAnswer::Restarted => text(b"restarted"),
         AgainAnswer::Refused { number, place } => refusal(number, place),
+    }
+}
+
+// What a question to a stored plan was answered.
+pub fn located(said: Located) {
+    match said {
+        Located::Forbidden { index } => named(b"forbidden ", index),
+        Located::Unsafe { index } => named(b"unsafe ", index),
+        Located::Neither => text(b"neither"),
+        Located::Refused { number, place } => refusal(number, place),
     }
 }

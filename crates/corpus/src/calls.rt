@@ -1,8 +1,9 @@
-// The calls of a case, in order, on the record and the map as they stand.
+// The calls of a case, in order, on the record, the map and the plan as they stand.
 ghost use Prim.Native.Nat.{_+_, _<_};
 ghost use lib.ListN.{length};
 use crate::input::CALL_WORDS;
 use crate::lent;
+use crate::questions;
 use crate::rounds::show_rounds;
 use crate::text;
 use broker::ServedBid;
@@ -25,6 +26,14 @@ const BID_IN_PLACE: u32 = 6;
 
 const ROUNDS: u32 = 7;
 
+const LOCATE: u32 = 8;
+
+const STORE: u32 = 9;
+
+const KEEP: u32 = 10;
+
+const SWEEP: u32 = 11;
+
 // The longest route slice: one that a line shows whole.
 const MAX_ROUTE: usize = text::ROW;
 
@@ -36,20 +45,22 @@ struct Call {
     c: u32,
 }
 
-// What the calls of a case go on with: the record, and how much of the map is lent.
+// What the calls of a case go on with: the record, how much of the map is lent, and how much of the plan slice is the stored plan.
 struct Play {
     rec: Record,
     lent: usize,
+    kept: usize,
 }
 
-pub fn play_calls(words: &[u32], list: &[u32], map: &mut [u8]) {
+pub fn play_calls(words: &[u32], list: &[u32], map: &mut [u8], plan: &mut [u32]) {
     let mut play = Play {
         rec: Record::fresh(),
         lent: map.len(),
+        kept: plan.len(),
     };
     let mut k = 0;
     while k < list.len() / CALL_WORDS {
-        play = play_call(words, map, play, call_at(list, k * CALL_WORDS));
+        play = play_call(words, map, plan, play, call_at(list, k * CALL_WORDS));
         k += 1;
     }
 }
@@ -65,12 +76,23 @@ fn call_at(list: &[u32], at: usize) -> Call
     }
 }
 
-fn play_call(words: &[u32], map: &mut [u8], play: Play, call: Call) -> Play {
-    if call.kind == POKE {
-        poke(map, call.a as usize, call.b);
-        return play;
+fn play_call(words: &[u32], map: &mut [u8], plan: &mut [u32], play: Play, call: Call) -> Play {
+    let kind = call.kind;
+    match kind {
+        POKE => {
+            poke(map, call.a as usize, call.b);
+            play
+        }
+        STORE => {
+            store(plan, call.a as usize, call.b);
+            play
+        }
+        LOCATE | SWEEP => {
+            ask(plan, play.kept, call);
+            play
+        }
+        _ => answer_call(words, map, play, call),
     }
-    answer_call(words, map, play, call)
 }
 
 // Puts a word's lowest byte into the map.
@@ -81,18 +103,43 @@ fn poke(map: &mut [u8], rank: usize, word: u32) {
     }
 }
 
+fn store(plan: &mut [u32], index: usize, word: u32) {
+    if index < plan.len() {
+        plan[index] = word;
+    }
+}
+
+// A question to the stored plan, at one state or at every state of a grid.
+fn ask(plan: &[u32], kept: usize, call: Call) {
+    let n = least(kept, plan.len());
+    let positions = positions_of(call.b, call.c);
+    if call.kind == SWEEP {
+        questions::sweep(&plan[..n], call.a as usize, positions);
+        return;
+    }
+    questions::locate(&plan[..n], call.a as usize, positions);
+}
+
 fn answer_call(words: &[u32], map: &[u8], play: Play, call: Call) -> Play {
     let lent = least(play.lent, map.len());
     let own = play.rec;
+    let kept = play.kept;
     let kind = call.kind;
     match kind {
         RECORD => Play {
             rec: record_of(call.a, call.b, call.c),
             lent: lent,
+            kept: kept,
         },
         LEND => Play {
             rec: own,
             lent: call.a as usize,
+            kept: kept,
+        },
+        KEEP => Play {
+            rec: own,
+            lent: lent,
+            kept: call.a as usize,
         },
         ROUTE => {
             show_route(words, &map[..lent], own, call.a as usize);
@@ -101,25 +148,32 @@ fn answer_call(words: &[u32], map: &[u8], play: Play, call: Call) -> Play {
         _ => Play {
             rec: show_served(words, &map[..lent], own, call),
             lent: lent,
+            kept: kept,
         },
     }
 }
 
-// The record of two words of positions, a byte each, and a grant number.
-fn record_of(low: u32, high: u32, grants: u32) -> Record {
+// The positions of two words, a byte each.
+fn positions_of(low: u32, high: u32) -> [u8; model::MAX_TASKS] {
     let first = listing::word_bytes(low);
     let last = listing::word_bytes(high);
+    [
+        first[0],
+        first[1],
+        first[2],
+        first[3],
+        last[0],
+        last[1],
+        last[2],
+        last[3],
+    ]
+}
+
+// The record of two words of positions and a grant number.
+fn record_of(low: u32, high: u32, grants: u32) -> Record {
+    let positions = positions_of(low, high);
     Record {
-        positions: [
-            first[0],
-            first[1],
-            first[2],
-            first[3],
-            last[0],
-            last[1],
-            last[2],
-            last[3],
-        ],
+        positions: positions,
         grants: grants,
     }
 }

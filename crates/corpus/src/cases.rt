@@ -54,7 +54,12 @@ fn play_slices(head: Header, words: &[u32], map: &mut [u8], plan: &mut [u32]) {
         &mut map[..own_map],
         &mut plan[..own_plan],
     );
-    play_calls(&words[..set_end], &words[set_end..end], &mut map[..own_map]);
+    play_calls(
+        &words[..set_end],
+        &words[set_end..end],
+        &mut map[..own_map],
+        &mut plan[..own_plan],
+    );
 }
 
 fn show_analysis(words: &[u32], map: &mut [u8], plan: &mut [u32]) {

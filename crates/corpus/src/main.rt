@@ -3,6 +3,7 @@ mod calls;
 mod cases;
 mod input;
 mod lent;
+mod questions;
 mod rounds;
 mod sums;
 mod text;

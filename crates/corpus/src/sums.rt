@@ -1,5 +1,5 @@
 // Checksums of slices: FNV-1a of 32 bits over the bytes, a word's lowest byte first.
-const START: u32 = 0x811C_9DC5;
+pub const START: u32 = 0x811C_9DC5;
 
 const PRIME: u64 = 0x0100_0193;
 
@@ -26,7 +26,7 @@ pub fn words_sum(slice: &[u32]) -> u32 {
     sum
 }
 
-fn sum_word(sum: u32, word: u32) -> u32 {
+pub fn sum_word(sum: u32, word: u32) -> u32 {
     let bytes = listing::word_bytes(word);
     let first = sum_byte(sum, bytes[0]);
     let second = sum_byte(first, bytes[1]);

@@ -58,6 +58,13 @@ pub fn steps(steps: &[u8]) {
     row(steps);
 }
 
+// The line of a sweep: the checksum of the indices, and a character for each state.
+pub fn sweep(sum: u32, row: &[u8]) {
+    console::text(b"swept");
+    hex(sum);
+    steps(row);
+}
+
 // A character for each byte of a map or a route slice, and the end of the line.
 fn row(slice: &[u8]) {
     let mut line = [0u8; ROW];

@@ -96,7 +96,7 @@ fn say_step(step: u8) {
     console::named(b" ", step as usize);
 }
 
-fn say_steps(steps: &[u8]) {
+pub fn say_steps(steps: &[u8]) {
     let mut i = 0;
     while i < steps.len() {
         say_step(steps[i]);

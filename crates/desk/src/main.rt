@@ -2,6 +2,7 @@
 mod calls;
 mod lines;
 mod long;
+mod questions;
 mod sets;
 
 fn main() {
@@ -16,6 +17,9 @@ fn main() {
     calls::spoilt_maps(&words);
     sets::mapped_sets();
     sets::small_sets();
+    questions::on_a();
+    questions::on_d();
+    questions::on_others();
     long::two_long();
     long::three_long();
 }

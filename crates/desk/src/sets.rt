@@ -21,7 +21,7 @@ pub const A: [u32; 13] = [
 
 pub const GRID_OF_A: usize = 25;
 
-const D: [u32; 18] = [
+pub const D: [u32; 18] = [
     0x1000_0001,
     0x1000_0001,
     0x1000_0001,
@@ -42,9 +42,9 @@ const D: [u32; 18] = [
     0x5000_0011,
 ];
 
-const GRID_OF_D: usize = 49;
+pub const GRID_OF_D: usize = 49;
 
-const E: [u32; 11] = [
+pub const E: [u32; 11] = [
     0x1000_0002,
     0x2000_0000,
     0x3000_0000,
@@ -58,7 +58,7 @@ const E: [u32; 11] = [
     0x5000_000A,
 ];
 
-const GRID_OF_E: usize = 27;
+pub const GRID_OF_E: usize = 27;
 
 // Examples d and e.
 pub fn mapped_sets() {

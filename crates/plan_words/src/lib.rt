@@ -1,4 +1,5 @@
-// The words of a plan: how each kind is made and a side's word taken apart, which no other code knows, and the writing of words and boxes. For the crates that write plans.
+// The words of a plan: how each kind is made and a side's word taken apart, which no other code knows, and the writing of words and boxes. For the crates that write
+// plans, and the one that reads them.
 ghost use mathlib.Core.Path.{_≡_};
 ghost use mathlib.Core.Bool.{cond};
 ghost use mathlib.Core.List.{[], _∷_};
@@ -6,7 +7,9 @@ ghost use Prim.Native.Nat.{_≤_, _<_};
 ghost use lib.ListN.{length, take, set};
 ghost use lib.Dec.{eqb};
 ghost use Rattle.model.specs.Layout.{word, END};
+ghost use Rattle.model.specs.Hold.{within};
 ghost use Rattle.model.specs.Plan.{FORBIDDEN-BOX, UNSAFE-BOX, sideWord, sideOf};
+ghost use Rattle.model.specs.StoredPlan.{isSide};
 ghost use Rattle.plan_words.specs.Words.{Wrote};
 
 // Words with field 0.
@@ -64,6 +67,29 @@ pub fn side_high(side: u32) -> u8
     ensures { λ r. ⌜ r ≡ sideOf side .high ⌝ }
 {
     (side % LOW_UNIT) as u8
+}
+
+// Whether a word is the side of a task, its lowest position at most its highest.
+pub fn is_side(word: u32, task: usize) -> bool
+    requires { ⌜ task < 256 ⌝ }
+    ensures { λ r. ⌜ r ≡ isSide task word ⌝ }
+{
+    let low = side_low(word);
+    let high = side_high(word);
+    if word != side(task, low, high) {
+        return false;
+    }
+    low <= high
+}
+
+// Whether a position lies within a side.
+pub fn side_holds(side: u32, position: u8) -> bool
+    ensures { λ r. ⌜ r ≡ within (sideOf side) position ⌝ }
+{
+    if position < side_low(side) {
+        return false;
+    }
+    position <= side_high(side)
 }
 
 // The word of a kind that names a state, by its rank.

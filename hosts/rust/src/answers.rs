@@ -1,4 +1,4 @@
-//! What calls answer: a bid's answer, a refusal with its place, and how both are had from the library's numbers.
+//! What calls answer: a bid's answer, where a state lies in a plan, a refusal with its place, and how they are had from the library's numbers.
 
 use crate::{sys, Refusal};
 use core::fmt;
@@ -41,6 +41,56 @@ impl fmt::Display for BidAnswer {
             BidAnswer::Granted | BidAnswer::Finished => to.write_str(self.text()),
             BidAnswer::Busy { device } => write!(to, "waits for device {device}"),
             BidAnswer::Held { rank } => write!(to, "held back from unsafe state {rank}"),
+        }
+    }
+}
+
+/// Where a state lies in a plan. A state that boxes of both kinds hold is in a forbidden one; of each kind the first box that holds it counts.
+///
+/// For a plan that an analysis wrote, and a state of its set: `Forbidden` where the map has [`sys::FORBIDDEN`], `Unsafe` where it has [`sys::UNSAFE`] or
+/// [`sys::DEAD`], `Neither` where it has [`sys::OPEN`].
+#[must_use = "it is all that the question was for"]
+#[derive(Clone, Copy, Debug, PartialEq, Eq, Hash)]
+pub enum Location {
+    /// A forbidden box holds it: a device has too many holders there.
+    Forbidden {
+        /// The index of the box's first word; [`Plan::box_at`](crate::Plan::box_at) has the box.
+        index: usize,
+    },
+    /// An unsafe box holds it, and no forbidden one: steps no longer lead from it to the end.
+    Unsafe {
+        /// The index of the box's first word; [`Plan::box_at`](crate::Plan::box_at) has the box.
+        index: usize,
+    },
+    /// No box holds it.
+    Neither,
+}
+
+impl Location {
+    /// The index of the first word of the box that holds the state; none if no box does.
+    pub fn index(self) -> Option<usize> {
+        match self {
+            Location::Forbidden { index } | Location::Unsafe { index } => Some(index),
+            Location::Neither => None,
+        }
+    }
+
+    /// The name of its kind, for a log; `arbiter_kind_text` in C. As a whole it prints with its index, as `in forbidden box at 3`.
+    pub fn text(self) -> &'static str {
+        match self {
+            Location::Forbidden { .. } => "in forbidden box",
+            Location::Unsafe { .. } => "in unsafe box",
+            Location::Neither => "in no box",
+        }
+    }
+}
+
+impl fmt::Display for Location {
+    fn fmt(&self, to: &mut fmt::Formatter<'_>) -> fmt::Result {
+        to.write_str(self.text())?;
+        match self.index() {
+            Some(index) => write!(to, " at {index}"),
+            None => Ok(()),
         }
     }
 }

@@ -24,7 +24,7 @@
 //!
 //! Only an analysis makes an [`Analysed`], and a [`Service`] owns one together with its record, so no bid is ever asked of another map, set or
 //! record. Both need a heap. The calls over slices that the caller lends are in [`plain`], which says what they trust; [`Set`], [`State`] and
-//! [`Plan`] read words for either.
+//! [`Plan`] read words for either. [`Plan::locate`] questions a plan that was stored, without its set.
 //!
 //! The library has no state of its own, so every call may be made from any thread. What must not be shared is what Rust doesn't let one share:
 //! a bid takes `&mut self`. An analysis needs some 300 KiB of stack.
@@ -70,7 +70,7 @@ mod words;
 
 #[cfg(feature = "alloc")]
 pub use analysed::Analysed;
-pub use answers::{BidAnswer, NoSuchRefusal, Refused};
+pub use answers::{BidAnswer, Location, NoSuchRefusal, Refused};
 pub use plan::{BoxKind, Plan, PlanBox};
 pub use record::{Positions, Record};
 #[cfg(feature = "alloc")]
@@ -131,11 +131,15 @@ pub enum Refusal {
     NoRoute = sys::NO_ROUTE,
     /// The route slice is shorter than the route, whose length is the place.
     RouteTooShort = sys::ROUTE_TOO_SHORT,
+    /// The task count isn't 1 to 8; the place is 0.
+    BadTaskCount = sys::BAD_TASK_COUNT,
+    /// The words aren't a plan for so many tasks; the place is the index of the first word that no plan has there, or the number of words if END is missing.
+    OutsideLayout = sys::OUTSIDE_LAYOUT,
 }
 
 impl Refusal {
     /// All refusals by rising number, from 1.
-    pub const ALL: [Refusal; 21] = [
+    pub const ALL: [Refusal; 23] = [
         Refusal::NoWords,
         Refusal::TooManyWords,
         Refusal::WordAfterEnd,
@@ -157,6 +161,8 @@ impl Refusal {
         Refusal::NotAtEnd,
         Refusal::NoRoute,
         Refusal::RouteTooShort,
+        Refusal::BadTaskCount,
+        Refusal::OutsideLayout,
     ];
 
     /// The refusal's number in `docs/SCOPE.md`, "Refusals"; `TryFrom<u8>` goes the other way.
@@ -190,6 +196,8 @@ impl Refusal {
             Refusal::NotAtEnd => "not every task is finished",
             Refusal::NoRoute => "no steps lead from this state to the end",
             Refusal::RouteTooShort => "the route has more steps than its slice has bytes",
+            Refusal::BadTaskCount => "a plan is for 1 to 8 tasks",
+            Refusal::OutsideLayout => "no plan for so many tasks goes on like this: it was cut or damaged, or is for another number of tasks",
         }
     }
 }

@@ -9,9 +9,10 @@
 //! - **the record is as the last call left it**, and the only one for the set's devices.
 //!
 //! [`Analysed`](crate::Analysed) and [`Service`](crate::Service) see to all three; they are this module's calls with the slices in one hand.
+//! [`locate`] takes none of these, and trusts nothing.
 //!
 //! ```
-//! use arbiter::{plain, BidAnswer, Record};
+//! use arbiter::{plain, BidAnswer, Location, Record};
 //!
 //! # let set = [
 //! #     0x10000001, 0x10000001, 0x20000000, 0x30000000, 0x30000001, 0x40000001, 0x40000000, 0x20000000, 0x30000001, 0x30000000,
@@ -25,11 +26,14 @@
 //! let mut record = Record::fresh();
 //! assert_eq!(plain::bid(&mut record, &set, &map, 0)?, BidAnswer::Granted);
 //! assert_eq!(plain::bid(&mut record, &set, &map, 1)?, BidAnswer::Held { rank: 6 });
+//!
+//! // The state from which that bid was held back, asked of the plan alone.
+//! assert_eq!(plain::locate([1, 1, 0, 0, 0, 0, 0, 0], &plan[..words], 2)?, Location::Unsafe { index: 6 });
 //! # Ok::<(), arbiter::Refused>(())
 //! ```
 
 use crate::answers::{refused, value_of};
-use crate::{sys, version, BidAnswer, Record, Refused};
+use crate::{sys, version, BidAnswer, Location, Positions, Record, Refused};
 
 /// What a map slice is filled with before the analysis: no byte of a map, so that one that no analysis wrote is refused and grants nothing.
 pub const NOT_ANALYSED: u8 = 0xFF;
@@ -135,5 +139,29 @@ pub fn route(record: &Record, set: &[u32], map: &[u8], route: &mut [u8]) -> Resu
     match answer.kind {
         sys::ROUTED => Ok(value_of(answer)),
         _ => Err(refused("arbiter_route", answer)),
+    }
+}
+
+/// Where does this state lie in a plan for so many tasks? It needs the plan's words, up to and with END, and neither set nor map.
+///
+/// All words are looked at before any of them is answered from. Positions past the task count are unread; none is wrong by itself, and one above every box
+/// lies in none. Whose plan it is, the words don't say: a plan of another set with as many tasks is answered from like any other.
+///
+/// # Errors
+///
+/// Refusals 22 and 23, whatever the state.
+///
+/// # Panics
+///
+/// If the linked library isn't the one that belongs to this crate.
+pub fn locate(positions: Positions, plan: &[u32], tasks: usize) -> Result<Location, Refused> {
+    version::check();
+    // SAFETY: as in `read`; the state goes by value.
+    let answer = unsafe { sys::arbiter_locate(sys::State { positions }, plan.as_ptr(), plan.len(), tasks) };
+    match answer.kind {
+        sys::IN_FORBIDDEN_BOX => Ok(Location::Forbidden { index: value_of(answer) }),
+        sys::IN_UNSAFE_BOX => Ok(Location::Unsafe { index: value_of(answer) }),
+        sys::IN_NO_BOX => Ok(Location::Neither),
+        _ => Err(refused("arbiter_locate", answer)),
     }
 }

@@ -1,7 +1,7 @@
-//! What stands in a plan (`docs/SCOPE.md`, "Plan").
+//! What stands in a plan, and where states lie in it (`docs/SCOPE.md`, "Plan" and "Stored plans").
 
-use crate::sys;
 use crate::words::{field_of, kind_of};
+use crate::{plain, sys, Location, Positions, Refused};
 use core::ops::RangeInclusive;
 
 /// A plan, lent by whoever has its words, up to and with its END.
@@ -31,8 +31,8 @@ pub struct PlanBox<'a> {
 }
 
 impl<'a> Plan<'a> {
-    /// A plan's words as [`plain::analyse`](crate::plain::analyse) wrote them, or as they were stored. Nothing looks at whether they are a plan; if not, then what
-    /// is found in them means nothing.
+    /// A plan's words as [`plain::analyse`] wrote them, or as they were stored. Nothing looks here at whether they are a plan; if not, then the boxes and dead
+    /// states that are found in them mean nothing. [`locate`](Plan::locate) does look, before it answers.
     pub fn new(words: &'a [u32]) -> Plan<'a> {
         Plan { words }
     }
@@ -44,15 +44,47 @@ impl<'a> Plan<'a> {
 
     /// Its boxes in order: the forbidden ones, then the unsafe ones.
     pub fn boxes(self) -> impl Iterator<Item = PlanBox<'a>> {
-        let words = self.words;
-        words.iter().enumerate().filter_map(move |(index, &word)| {
-            let kind = match kind_of(word) {
-                sys::FORBIDDEN_BOX => BoxKind::Forbidden { device: field_of(word) },
-                sys::UNSAFE_BOX => BoxKind::Unsafe,
-                _ => return None,
-            };
-            Some(PlanBox { kind, sides: sides_at_start(&words[index + 1..]) })
-        })
+        (0..self.words.len()).filter_map(move |index| self.box_at(index))
+    }
+
+    /// The box whose first word has this index, as a [`Location`] names it; none if no box starts there.
+    pub fn box_at(self, index: usize) -> Option<PlanBox<'a>> {
+        let (&word, behind) = self.words.get(index..)?.split_first()?;
+        let kind = match kind_of(word) {
+            sys::FORBIDDEN_BOX => BoxKind::Forbidden { device: field_of(word) },
+            sys::UNSAFE_BOX => BoxKind::Unsafe,
+            _ => return None,
+        };
+        Some(PlanBox { kind, sides: sides_at_start(behind) })
+    }
+
+    /// Where does this state lie, in a plan for so many tasks? [`plain::locate`] says more.
+    ///
+    /// ```
+    /// use arbiter::{BoxKind, Location, Plan};
+    ///
+    /// // The plan of example a, as it was stored, and its task count; the set isn't needed.
+    /// let words = [
+    ///     0x60000000, 0x80000103, 0x80010202, 0x60000001, 0x80000202, 0x80010103, 0x70000000, 0x80000101, 0x80010101, 0x90000006, 0x5000000A,
+    /// ];
+    /// let (plan, tasks) = (Plan::new(&words), 2);
+    ///
+    /// assert_eq!(plan.locate([2, 1, 0, 0, 0, 0, 0, 0], tasks)?, Location::Forbidden { index: 3 });
+    /// let plan_box = plan.box_at(3).unwrap();
+    /// assert_eq!(plan_box.kind, BoxKind::Forbidden { device: 1 });
+    /// assert!(plan_box.sides().eq([2..=2, 1..=3]));
+    /// # Ok::<(), arbiter::Refused>(())
+    /// ```
+    ///
+    /// # Errors
+    ///
+    /// Refusals 22 and 23, whatever the state.
+    ///
+    /// # Panics
+    ///
+    /// If the linked library isn't the one that belongs to this crate.
+    pub fn locate(self, positions: Positions, tasks: usize) -> Result<Location, Refused> {
+        plain::locate(positions, self.words, tasks)
     }
 
     /// The ranks of its dead states, rising.

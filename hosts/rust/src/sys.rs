@@ -1,4 +1,4 @@
-//! The library as it is: the calls of `include/arbiter.h`, its two structs and every number by name.
+//! The library as it is: the calls of `include/arbiter.h`, its three structs and every number by name.
 //!
 //! Nothing here is safe to call without reading `docs/HOSTS.md`; the crate's root has the safe interface. A caller from here looks first whether
 //! `arbiter_version` answers `VERSION`: the structs may differ from one version to the next.
@@ -13,6 +13,13 @@ pub struct Record {
     pub grants: u32,
 }
 
+/// A position for each of the eight tasks, to question a stored plan with; those past the task count are unread.
+#[repr(C)]
+#[derive(Clone, Copy, Debug, PartialEq, Eq)]
+pub struct State {
+    pub positions: [u8; MAX_TASKS],
+}
+
 /// What a call answers: its kind, the refusal's number (0 without one), and a value: see the kinds.
 #[must_use = "only GRANTED lets a task act, and a refused call has done nothing"]
 #[repr(C)]
@@ -23,7 +30,7 @@ pub struct Answer {
     pub value: u64,
 }
 
-// The compiler must lay both out as the library does.
+// The compiler must lay all three out as the library does.
 const _: () = assert!(size_of::<Answer>() == 16);
 const _: () = assert!(offset_of!(Answer, kind) == 0);
 const _: () = assert!(offset_of!(Answer, refusal) == 4);
@@ -31,6 +38,8 @@ const _: () = assert!(offset_of!(Answer, value) == 8);
 const _: () = assert!(size_of::<Record>() == 12);
 const _: () = assert!(offset_of!(Record, positions) == 0);
 const _: () = assert!(offset_of!(Record, grants) == 8);
+const _: () = assert!(size_of::<State>() == 8);
+const _: () = assert!(offset_of!(State, positions) == 0);
 
 extern "C" {
     pub fn arbiter_version() -> u32;
@@ -40,10 +49,11 @@ extern "C" {
     pub fn arbiter_bid(record: *mut Record, set: *const u32, set_len: usize, map: *const u8, map_len: usize, task: usize) -> Answer;
     pub fn arbiter_again(record: *mut Record, set: *const u32, set_len: usize) -> Answer;
     pub fn arbiter_route(record: Record, set: *const u32, set_len: usize, map: *const u8, map_len: usize, route: *mut u8, route_len: usize) -> Answer;
+    pub fn arbiter_locate(state: State, plan: *const u32, plan_len: usize, tasks: usize) -> Answer;
 }
 
 // The version that this interface is of, and the library must be: major times 10,000, minor times 100, patch.
-pub const VERSION: u32 = 10000;
+pub const VERSION: u32 = 10100;
 
 // The kinds of an answer. A zeroed answer is a refusal.
 pub const REFUSED: u32 = 0; // value: the refusal's place
@@ -55,6 +65,9 @@ pub const FINISHED: u32 = 5;
 pub const BUSY: u32 = 6; // value: the device that the next action names
 pub const HELD: u32 = 7; // value: the next state's rank
 pub const RESTARTED: u32 = 8;
+pub const IN_FORBIDDEN_BOX: u32 = 9; // value: the index of the box's first word
+pub const IN_UNSAFE_BOX: u32 = 10; // likewise
+pub const IN_NO_BOX: u32 = 11;
 
 // The limits of a set.
 pub const MAX_WORDS: usize = 4096;
@@ -113,3 +126,7 @@ pub const BAD_MAP_BYTE: u8 = 18;
 pub const NOT_AT_END: u8 = 19;
 pub const NO_ROUTE: u8 = 20;
 pub const ROUTE_TOO_SHORT: u8 = 21;
+
+// The refusals of a stored plan.
+pub const BAD_TASK_COUNT: u8 = 22;
+pub const OUTSIDE_LAYOUT: u8 = 23;

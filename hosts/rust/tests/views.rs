@@ -2,7 +2,7 @@
 
 mod sets;
 
-use arbiter::{plain, sys, Action, BidAnswer, BoxKind, NoSuchRefusal, Plan, Positions, Record, Refusal, Refused, Set, State};
+use arbiter::{plain, sys, Action, BidAnswer, BoxKind, Location, NoSuchRefusal, Plan, Positions, Record, Refusal, Refused, Set, State};
 use sets::{refused, A, D, E, PLAN, STATES};
 use std::ops::RangeInclusive;
 
@@ -134,6 +134,17 @@ fn a_plan_without_boxes_or_sides_is_read_to_its_end() {
     assert_eq!(boxes(Plan::new(&[0x80000000, 0x70000000])), [(BoxKind::Unsafe, vec![])]);
 }
 
+#[test]
+fn a_box_is_had_by_the_index_of_its_first_word() {
+    let plan = Plan::new(&PLAN);
+    let starts: Vec<usize> = (0..PLAN.len()).filter(|&index| plan.box_at(index).is_some()).collect();
+    assert_eq!(starts, [0, 3, 6]);
+    assert!(plan.boxes().eq(starts.into_iter().map(|index| plan.box_at(index).unwrap())));
+    for beyond in [PLAN.len(), PLAN.len() + 1, usize::MAX] {
+        assert_eq!(plan.box_at(beyond), None);
+    }
+}
+
 /// The boxes hold the states whose map byte they say, on the states of a whole set.
 #[test]
 fn the_boxes_of_d_cover_its_map() {
@@ -164,11 +175,11 @@ fn records_are_stored_positions_first_and_lowest_byte_first() {
 #[test]
 fn refusals_have_numbers_both_ways() {
     let numbers: Vec<u8> = Refusal::ALL.iter().map(|refusal| refusal.number()).collect();
-    assert_eq!(numbers, (1..=21).collect::<Vec<u8>>());
+    assert_eq!(numbers, (1..=23).collect::<Vec<u8>>());
     for refusal in Refusal::ALL {
         assert_eq!(Refusal::try_from(refusal.number()), Ok(refusal));
     }
-    for number in [0, 22, 255] {
+    for number in [0, 24, 255] {
         assert_eq!(Refusal::try_from(number), Err(NoSuchRefusal(number)));
     }
 }
@@ -177,16 +188,19 @@ fn refusals_have_numbers_both_ways() {
 fn everything_prints_for_a_log() {
     let refused = Refused { refusal: Refusal::ClaimOfHeld, place: 3 };
     assert_eq!(refused.to_string(), "refused 8 at 3: the task claims a device that it holds already");
-    assert_eq!(NoSuchRefusal(22).to_string(), "no refusal has the number 22");
+    assert_eq!(NoSuchRefusal(24).to_string(), "no refusal has the number 24");
     let answers = [BidAnswer::Granted, BidAnswer::Finished, BidAnswer::Busy { device: 1 }, BidAnswer::Held { rank: 6 }];
     assert_eq!(answers.map(|answer| answer.to_string()), ["granted", "finished", "waits for device 1", "held back from unsafe state 6"]);
     assert_eq!(answers.map(BidAnswer::text), ["granted", "finished", "busy", "held"]);
+    let locations = [Location::Forbidden { index: 3 }, Location::Unsafe { index: 6 }, Location::Neither];
+    assert_eq!(locations.map(|location| location.to_string()), ["in forbidden box at 3", "in unsafe box at 6", "in no box"]);
+    assert_eq!(locations.map(Location::text), ["in forbidden box", "in unsafe box", "in no box"]);
     assert_eq!([CLAIM_0, RELEASE_1].map(|action| action.to_string()), ["claims device 0", "releases device 1"]);
 }
 
 #[cfg(feature = "std")]
 #[test]
 fn what_is_refused_is_an_error() {
-    let errors: [Box<dyn std::error::Error>; 2] = [Box::new(Set::read(&[]).unwrap_err()), Box::new(NoSuchRefusal(22))];
-    assert_eq!(errors.map(|error| error.to_string()), ["refused 1 at 0: the set is empty", "no refusal has the number 22"]);
+    let errors: [Box<dyn std::error::Error>; 2] = [Box::new(Set::read(&[]).unwrap_err()), Box::new(NoSuchRefusal(24))];
+    assert_eq!(errors.map(|error| error.to_string()), ["refused 1 at 0: the set is empty", "no refusal has the number 24"]);
 }

@@ -1,12 +1,14 @@
 //! Makes each call twice, through the library and through the reference, and compares the answers and every byte that was lent.
 
 use crate::fenced::Fenced;
+use crate::questions::Asked;
 use crate::random::Random;
-use crate::reference::{Answer, Record, Worked};
+use crate::reference::{Answer, Record, State, Worked};
+use crate::stored_plan;
 use arbiter::sys;
 use std::fmt::Debug;
 
-pub const CALLS: [&str; 5] = ["read", "analyse", "bid", "again", "route"];
+pub const CALLS: [&str; 6] = ["read", "analyse", "bid", "again", "route", "locate"];
 
 #[derive(Clone, Copy)]
 pub enum Call {
@@ -15,13 +17,14 @@ pub enum Call {
     Bid,
     Again,
     Route,
+    Locate,
 }
 
 /// How often each call gave each answer.
 #[derive(Default)]
 pub struct Seen {
-    pub kinds: [[u64; 9]; 5],
-    pub refusals: [[u64; 22]; 5],
+    pub kinds: [[u64; 12]; CALLS.len()],
+    pub refusals: [[u64; 24]; CALLS.len()],
 }
 
 /// What the accepted sets were like.
@@ -64,6 +67,7 @@ impl std::fmt::Display for Sets {
 pub struct Checker {
     pub seen: Seen,
     pub sets: Sets,
+    pub asked: Asked,
     /// Bids in service whose next action was a release.
     pub releases: u64,
     /// Said first when something differs.
@@ -80,6 +84,9 @@ fn told(answer: &sys::Answer) -> Answer {
         sys::BUSY => Answer::Busy(answer.value),
         sys::HELD => Answer::Held(answer.value),
         sys::RESTARTED => Answer::Restarted,
+        sys::IN_FORBIDDEN_BOX => Answer::InForbiddenBox(answer.value),
+        sys::IN_UNSAFE_BOX => Answer::InUnsafeBox(answer.value),
+        sys::IN_NO_BOX => Answer::InNoBox,
         _ => Answer::Refused(crate::reference::Refusal { number: answer.refusal, place: answer.value }),
     }
 }
@@ -97,6 +104,9 @@ pub fn laid_out(answer: Answer) -> sys::Answer {
         Answer::Busy(device) => of(sys::BUSY, device),
         Answer::Held(rank) => of(sys::HELD, rank),
         Answer::Restarted => of(sys::RESTARTED, 0),
+        Answer::InForbiddenBox(index) => of(sys::IN_FORBIDDEN_BOX, index),
+        Answer::InUnsafeBox(index) => of(sys::IN_UNSAFE_BOX, index),
+        Answer::InNoBox => of(sys::IN_NO_BOX, 0),
     }
 }
 
@@ -112,6 +122,14 @@ fn hexadecimal(bytes: &[u8]) -> String {
     bytes.iter().map(|byte| format!("{byte:02X}")).collect()
 }
 
+/// A plan to question, for so many tasks. Behind its slice these words stand, which it must not be answered from.
+#[derive(Clone, Copy)]
+pub struct Question<'a> {
+    pub plan: &'a [u32],
+    pub behind: &'a [u32],
+    pub tasks: usize,
+}
+
 /// Everything that one call was made with, to tell of when something differs.
 struct Made<'a> {
     call: Call,
@@ -122,7 +140,7 @@ struct Made<'a> {
 
 impl Checker {
     pub fn new() -> Checker {
-        Checker { seen: Seen::default(), sets: Sets::default(), releases: 0, input: String::new() }
+        Checker { seen: Seen::default(), sets: Sets::default(), asked: Asked::default(), releases: 0, input: String::new() }
     }
 
     /// Tells the whole case and ends the run.
@@ -141,9 +159,12 @@ impl Checker {
         if library != laid_out(reference) {
             self.fail(made, format!("the library answers {:?}, {:?}, the reference {:?}", told(&library), library, reference));
         }
-        let call = made.call as usize;
-        self.seen.kinds[call][library.kind as usize] += 1;
-        self.seen.refusals[call][library.refusal as usize] += 1;
+        self.count(made.call, library);
+    }
+
+    fn count(&mut self, call: Call, answer: sys::Answer) {
+        self.seen.kinds[call as usize][answer.kind as usize] += 1;
+        self.seen.refusals[call as usize][answer.refusal as usize] += 1;
     }
 
     fn alike<T: Copy + PartialEq + Debug>(&self, made: &Made, name: &str, library: &Fenced<T>, reference: &Fenced<T>) {
@@ -258,6 +279,35 @@ impl Checker {
         self.alike(&made, "route slice", &route, &other);
         self.alike(&made, "set", &set, &set_before);
         self.alike(&made, "map", &lent_map, &map_before);
+    }
+
+    /// One plan asked at these states, and what the library answers.
+    pub fn locate(&mut self, random: &mut Random, question: Question, states: &[State]) -> Vec<sys::Answer> {
+        let Question { plan, behind, tasks } = question;
+        // Beyond the rest, and before the slice, words that a plan might go on with.
+        let fenced = Fenced::new(random, plan.len(), |i| plan.iter().chain(behind).nth(i).copied().unwrap_or(0x5000_0000 | i as u32 & 0x0FFF_FFFF));
+        let before = fenced.clone();
+        let lent = fenced.read();
+        let stored = stored_plan::read(plan, tasks);
+        let mut answers = Vec::with_capacity(states.len());
+        for state in states {
+            let library = unsafe { sys::arbiter_locate(sys::State { positions: *state }, lent.as_ptr(), lent.len(), tasks) };
+            let reference = stored_plan::locate(&stored, state);
+            self.must(question, state, library == laid_out(reference), || format!("the library answers {library:?}, the reference {reference:?}"));
+            self.count(Call::Locate, library);
+            answers.push(library);
+        }
+        let unchanged = fenced.difference(&before).is_none();
+        self.must(question, &states[0], unchanged, || format!("it, or one of the {} questions at other states, has changed the plan", states.len() - 1));
+        answers
+    }
+
+    /// What must be so of a question at a state.
+    pub fn must(&self, question: Question, state: &State, is_so: bool, what: impl Fn() -> String) {
+        if !is_so {
+            let beside = format!(" {state:?} for {} tasks", question.tasks);
+            self.fail(&Made { call: Call::Locate, words: question.plan, beside, map: None }, what());
+        }
     }
 
     /// A record between fences of other records.

@@ -11,11 +11,15 @@ mod checker;
 mod fenced;
 mod long_run;
 mod package;
+mod plan_cases;
+mod questions;
 mod random;
 mod reference;
+mod stored_plan;
 
 use arbiter::sys;
 use checker::{Checker, Seen, CALLS};
+use plan_cases::FAULTS;
 use random::Random;
 use reference::{Record, Set, Worked};
 
@@ -56,6 +60,7 @@ fn main() {
         }
         print_table(&checker.seen);
         println!("{}", checker.sets);
+        println!("{}", checker.asked);
         let long = service(seed, (100 * last).min(MOST_BIDS), 0);
         // A record that is next to the wrap from the start.
         let wrapped = service(seed + 1, 1000, 0xFFFF_FFF0);
@@ -63,7 +68,7 @@ fn main() {
             println!("FAIL: the grant number never went from 4,294,967,295 to 0");
             std::process::exit(1);
         }
-        all_seen(&checker.seen);
+        all_seen(&checker.seen, &checker.asked.faults);
         println!("in service all {} bids that were to release something were granted", checker.releases);
         println!("shake: {last} inputs, seed {seed}, {} calls and {long} bids on one record agree", calls(&checker.seen));
     });
@@ -76,10 +81,13 @@ fn main() {
 fn shake(checker: &mut Checker, seed: u64, input: u64) {
     let mut random = Random::new(seed, input);
     let random = &mut random;
+    // Questions to plans draw from another one, so that they don't move what the other calls are made with.
+    let mut asking = Random::new(!seed, input);
     let words = cases::words(random, input);
     let worked = Worked::new(&words);
     checker.input = format!("to see it again: shake replay {seed} {input}");
     checker.read(random, &words, &worked);
+    questions::of_no_set(checker, &mut asking);
     match &worked.set {
         Err(_) => refused(checker, random, &words, &worked),
         Ok(set) => {
@@ -97,6 +105,7 @@ fn shake(checker: &mut Checker, seed: u64, input: u64) {
             }
             let record = cases::record(random, set, &worked.map);
             checker.again(random, &words, &worked, record);
+            questions::of_set(checker, &mut asking, &worked, set);
             // Of one set in four, for the time that it takes.
             if random.one_in(4) {
                 checker.package(&words, package::check(random, &words, &worked, set));
@@ -175,10 +184,10 @@ fn calls(seen: &Seen) -> u64 {
     seen.kinds.iter().flatten().sum()
 }
 
-const KINDS: [&str; 9] = ["refused", "accepted", "planned", "routed", "granted", "finished", "busy", "held", "restarted"];
+const KINDS: [&str; 12] = ["refused", "accepted", "planned", "routed", "granted", "finished", "busy", "held", "restarted", "forbidden", "unsafe", "neither"];
 
 fn print_table(seen: &Seen) {
-    let line = |name: &str, counts: [u64; 5]| {
+    let line = |name: &str, counts: [u64; CALLS.len()]| {
         let cells: Vec<String> = counts.iter().map(|count| format!("{count:>9}")).collect();
         println!("{name:<12}{}", cells.join(""));
     };
@@ -186,24 +195,34 @@ fn print_table(seen: &Seen) {
     for (kind, name) in KINDS.iter().enumerate() {
         line(name, std::array::from_fn(|call| seen.kinds[call][kind]));
     }
-    for number in 1..22 {
+    for number in 1..24 {
         line(&format!("refused {number}"), std::array::from_fn(|call| seen.refusals[call][number]));
     }
 }
 
-/// Every answer that docs/SCOPE.md gives a call must have come, or the run shows less than it says. 15 is the printer's alone.
-fn all_seen(seen: &Seen) {
+/// Every answer that docs/SCOPE.md gives a call, and every fault of a plan, must have come, or the run shows less than it says. 15 is the printer's alone.
+fn all_seen(seen: &Seen, faults: &[u64]) {
     let set: Vec<usize> = (1..=12).collect();
-    let expected: [(&[usize], &[usize]); 5] =
-        [(&[1], &[]), (&[2], &[13, 14]), (&[4, 5, 6, 7], &[13, 16, 17, 18]), (&[8], &[16, 19]), (&[3], &[13, 16, 18, 20, 21])];
+    // The last column: whether the call is lent a set, and so brings its refusals.
+    let expected: [(&[usize], &[usize], bool); CALLS.len()] = [
+        (&[1], &[], true),
+        (&[2], &[13, 14], true),
+        (&[4, 5, 6, 7], &[13, 16, 17, 18], true),
+        (&[8], &[16, 19], true),
+        (&[3], &[13, 16, 18, 20, 21], true),
+        (&[9, 10, 11], &[22, 23], false),
+    ];
     let mut missing = Vec::new();
-    for (call, (kinds, refusals)) in expected.iter().enumerate() {
+    for ((name, _), _) in FAULTS.iter().zip(faults).filter(|(_, &count)| count == 0) {
+        missing.push(format!("a plan with the fault {name}"));
+    }
+    for (call, (kinds, refusals, lent_a_set)) in expected.iter().enumerate() {
         for &kind in kinds.iter() {
             if seen.kinds[call][kind] == 0 {
                 missing.push(format!("{} {}", CALLS[call], KINDS[kind]));
             }
         }
-        for &number in set.iter().chain(refusals.iter()) {
+        for &number in set.iter().filter(|_| *lent_a_set).chain(refusals.iter()) {
             if seen.refusals[call][number] == 0 {
                 missing.push(format!("{} refused {}", CALLS[call], number));
             }

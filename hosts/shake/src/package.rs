@@ -4,7 +4,8 @@
 use crate::cases;
 use crate::random::Random;
 use crate::reference::{held_after, Action, Answer, Refusal, Set, State, Worked};
-use arbiter::{Analysed, BidAnswer, BoxKind, Plan, Record, Refused, Service};
+use crate::stored_plan;
+use arbiter::{Analysed, BidAnswer, BoxKind, Location, Plan, Record, Refused, Service};
 use std::fmt::Debug;
 
 const STATES: usize = 3; // looked at of each set
@@ -22,6 +23,9 @@ pub fn check(random: &mut Random, words: &[u32], worked: &Worked, set: &Set) -> 
         state(analysed.set(), set, rank)?;
     }
     same("state beyond the last", analysed.set().state_of_rank(worked.map.len()), None)?;
+    for _ in 0..STATES {
+        location(analysed.plan(), &cases::record(random, set, &worked.map).positions, set.tasks.len())?;
+    }
     service(random, analysed, worked, set)
 }
 
@@ -83,6 +87,20 @@ fn state(package: arbiter::Set, set: &Set, rank: usize) -> Result<(), String> {
         same("holders", state.holders(device).collect(), holders)?;
     }
     Ok(())
+}
+
+/// Where a state lies, and that the box which is named holds it.
+fn location(plan: Plan, positions: &State, tasks: usize) -> Result<(), String> {
+    let found = plan.locate(*positions, tasks).map_err(|refused| refused.to_string())?;
+    let told = match found {
+        Location::Forbidden { index } => Answer::InForbiddenBox(index as u64),
+        Location::Unsafe { index } => Answer::InUnsafeBox(index as u64),
+        Location::Neither => Answer::InNoBox,
+    };
+    same("location", told, stored_plan::locate(&stored_plan::read(plan.words(), tasks), positions))?;
+    let plan_box = found.index().and_then(|index| plan.box_at(index));
+    let holds = plan_box.map(|plan_box| plan_box.sides().zip(positions).all(|(side, position)| side.contains(position)));
+    same("whether the box that is named holds the state", holds, found.index().map(|_| true))
 }
 
 /// From any record, if it is open, by bids of any tasks.

@@ -12,8 +12,11 @@ least-requires c κs = search needs
 record-of-requires : tie.Need-record-of-requires
 record-of-requires c κs = search needs
 
-cast-t11 : tie.Need-cast-t11
-cast-t11 c = search needs
+cast-t12 : tie.Need-cast-t12
+cast-t12 c = search needs
+
+cast-t13 : tie.Need-cast-t13
+cast-t13 c = search needs
 
 slice-aggregate-show-route : tie.Need-slice-aggregate-show-route
 slice-aggregate-show-route c = sym (length-take-le _ _ (omega arith))
@@ -42,13 +45,17 @@ returns-3 c = search needs
 returns-4 : tie.Need-returns-4
 returns-4 c = search needs
 
+returns-5 : tie.Need-returns-5
+returns-5 c = search needs
+
 pub answer-call-spec : {M : Type 1} → statement M
 answer-call-spec =
     tie.close
     (tie.spec
     least-requires
     record-of-requires
-    cast-t11
+    cast-t12
+    cast-t13
     slice-aggregate-show-route
     cast-show-route
     show-route-requires
@@ -57,4 +64,5 @@ answer-call-spec =
     returns
     returns-2
     returns-3
-    returns-4)
+    returns-4
+    returns-5)

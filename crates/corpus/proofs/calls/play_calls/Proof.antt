@@ -1,5 +1,5 @@
--- `corpus::calls::play_calls` meets its contract. The invariant: the map keeps its length. A call's four words lie within the list.
-use mathlib.Core.Path.{_≡_, refl, _∙_}
+-- `corpus::calls::play_calls` meets its contract. The invariant: map and plan slice keep their lengths. A call's four words lie within the list.
+use mathlib.Core.Path.{_≡_, refl}
 use Prim.Native.Nat.{_-_, _/_}
 use native.Mathlib.Omega.{arith}
 use lib.ListN.{length}
@@ -8,16 +8,16 @@ use Rattle.corpus.proofs.calls.play_calls.Statement.{statement}
 use Rattle.corpus.proofs.calls.play_calls.Tie as tie
 
 abbrev Inv-loop : tie.InvT-loop
-Inv-loop words list map₀ play₀ k₀ map play k = length map ≡ length map₀
+Inv-loop words list map₀ plan₀ play₀ k₀ map plan play k = (length map ≡ length map₀) × (length plan ≡ length plan₀)
 
 abbrev μ-loop : tie.MeasureT-loop
-μ-loop words list map₀ play₀ k₀ map play k = length list / 4 - k
+μ-loop words list map₀ plan₀ play₀ k₀ map plan play k = length list / 4 - k
 
 fresh-requires : tie.Need-fresh-requires Inv-loop μ-loop
 fresh-requires c κs = search needs
 
 loop-holds : tie.Need-loop-holds Inv-loop μ-loop
-loop-holds c = refl
+loop-holds c = (refl, refl)
 
 mul-call-at : tie.Need-mul-call-at Inv-loop μ-loop
 mul-call-at c = omega arith
@@ -35,12 +35,13 @@ loop-less : tie.Need-loop-less Inv-loop μ-loop
 loop-less c = omega arith
 
 loop-again : tie.Need-loop-again Inv-loop μ-loop
-loop-again c =
-    let played = c .before .before in
-    played .play-call .kept .1 .0 ∙ played .before .before .before .before .loop .inv
+loop-again c = search needs
 
 same-length : tie.Need-same-length Inv-loop μ-loop
-same-length c = c .before .loop .inv
+same-length c = search needs
+
+same-length-2 : tie.Need-same-length-2 Inv-loop μ-loop
+same-length-2 c = search needs
 
 returns : tie.Need-returns Inv-loop μ-loop
 returns c = search needs
@@ -60,4 +61,5 @@ play-calls-spec =
     loop-less
     loop-again
     same-length
+    same-length-2
     returns)

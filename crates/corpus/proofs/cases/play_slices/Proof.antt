@@ -57,6 +57,12 @@ slice-relend-prefix-play-calls c = search needs
 slice-aggregate-play-calls-2 : tie.Need-slice-aggregate-play-calls-2
 slice-aggregate-play-calls-2 c = sym (length-take-le _ _ (omega arith))
 
+slice-relend-prefix-play-calls-2 : tie.Need-slice-relend-prefix-play-calls-2
+slice-relend-prefix-play-calls-2 c = search needs
+
+slice-aggregate-play-calls-3 : tie.Need-slice-aggregate-play-calls-3
+slice-aggregate-play-calls-3 c = sym (length-take-le _ _ (omega arith))
+
 play-calls-requires : tie.Need-play-calls-requires
 play-calls-requires c κs = search needs
 
@@ -90,6 +96,8 @@ play-slices-spec =
     part-play-calls-end
     slice-relend-prefix-play-calls
     slice-aggregate-play-calls-2
+    slice-relend-prefix-play-calls-2
+    slice-aggregate-play-calls-3
     play-calls-requires
     same-length
     same-length-2
