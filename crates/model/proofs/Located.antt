@@ -1,9 +1,10 @@
 -- Accepted words: the task count is within the limits and the scan brings no fault. Then each box has its sides, and the answer is where the first boxes are found.
 use Prim.Native.Nat.{ℕ, zero, suc, _+_, _<_, _≤_}
 use native.Mathlib.Omega.{arith}
-use mathlib.Core.Path.{_≡_, refl, sym, ap, _∙_}
+use mathlib.Core.Path.{_≡_, refl, sym, _∙_}
 use mathlib.Core.Logic.{_⊎_, inl, inr}
 use mathlib.Core.Bool.{true, false, not}
+use mathlib.Core.Option.{none}
 use mathlib.Core.List.{List, [], _∷_}
 use lib.ListN.{length, take, drop}
 use lib.Dec.{eqb, ltb, leb}
@@ -12,12 +13,11 @@ use Rattle.model.specs.Answer.{given, refused, _then_}
 use Rattle.model.specs.Set.{at}
 use Rattle.model.specs.State.{State}
 use Rattle.model.specs.Layout.{kindOf, END}
-use Rattle.model.specs.Plan.{FORBIDDEN-BOX, UNSAFE-BOX, SIDE, DEAD-STATE, sideOf}
+use Rattle.model.specs.Plan.{FORBIDDEN-BOX, UNSAFE-BOX, SIDE, DEAD-STATE}
 use Rattle.model.specs.StoredPlan.{PlanScan, isSide, nothingScanned, inLayout, scanWord, scanFrom, firstOf, Location, locationOf, locate}
 use Rattle.model.proofs.Bools.{by-bool, true-not-false, and-true, eqb-flip}
 use Rattle.model.proofs.Answers.{refused-given, then-given}
-use Rattle.model.proofs.PlanBack.{side-kind}
-use Rattle.model.proofs.PlanScanned.{side-told, word-accepted}
+use Rattle.model.proofs.PlanScanned.{by-header, kind-told, word-accepted}
 use Rattle.model.proofs.FirstBoxes.{BoxKind}
 
 -- the task count is 1 to 8, and the words are scanned without a fault
@@ -76,10 +76,7 @@ module _ (n : ℕ) where
   module _ (kind : ℕ) (of-box : BoxKind kind) (few : n ≤ 8) where
     -- a side's word is of its own kind, not of the box's
     no-side : (t w : ℕ) → t < n → isSide t w ≡ true → kindOf w ≡ kind → ⊥
-    no-side t w l h k =
-        let (e, fits) = side-told t w h in
-        let own = ap kindOf e ∙ side-kind t (sideOf w) (omega arith) fits in
-        true-not-false (eqb SIDE kind) (eq-eqb SIDE kind (sym own ∙ k)) (of-box .not-side)
+    no-side t w l h k = true-not-false (eqb SIDE kind) (eq-eqb SIDE kind (sym (kind-told t w (omega arith) h) ∙ k)) (of-box .not-side)
 
     -- so a first word of a box stands where no side is missing, and then all are
     box-scanned : (s : PlanScan) (i w : ℕ) → inLayout n s i w ≡ true → kindOf w ≡ kind → (scanWord n s w .sides ≡ 0) × (scanWord n s w .ended ≡ false)
@@ -98,3 +95,28 @@ module _ (n : ℕ) where
         let b = box-scanned s i w (a .0) k in
         omega (arith, sides-follow (scanWord n s w) (suc i) ws (b .1) (a .1), b .0)
     box-room s i (w ∷ ws) h (suc j) l k = box-room (scanWord n s w) (suc i) ws (word-accepted n s i w ws h .1) j (omega arith) k
+
+-- ---- the order of kinds
+module _ (n : ℕ) (few : n ≤ 8) (x : State) where
+  -- behind an unsafe box or a rank a word begins no forbidden box, and leaves it so
+  later-kind : (s : PlanScan) (i w : ℕ) → FORBIDDEN-BOX < s .section → inLayout n s i w ≡ true
+      → (FORBIDDEN-BOX < scanWord n s w .section) × (eqb (kindOf w) FORBIDDEN-BOX ≡ false)
+  unfolding inLayout scanWord
+  later-kind s i w h e =
+      let q = and-true (not (s .ended)) _ e .1 in
+      by-bool (ltb (s .sides) n)
+      (λ l. rw (l, kind-told (s .sides) w (omega (arith, ltb-true (s .sides) n l)) (rw l at q)) (h, refl))
+      (λ l.
+      by-header s i w (rw l at q)
+      (λ k f. rw (l, k) (h, refl))
+      (λ k late f. absurd (omega arith))
+      (λ k late f. rw (l, k) (omega arith, refl))
+      (λ k f. rw (l, k) (omega arith, refl)))
+
+  pub none-after : (s : PlanScan) (i : ℕ) (ws : List ℕ) → FORBIDDEN-BOX < s .section → scanFrom n s i ws ≡ given tt → firstOf n FORBIDDEN-BOX x i ws ≡ none
+  unfolding firstOf
+  none-after s i [] h e = refl
+  none-after s i (w ∷ ws) h e =
+      let a = word-accepted n s i w ws e in
+      let after = later-kind s i w h (a .0) in
+      rw (after .1) (none-after (scanWord n s w) (suc i) ws (after .0) (a .1))

@@ -18,6 +18,7 @@ use Rattle.model.specs.Plan.{
   Plan,
   FORBIDDEN-BOX,
   UNSAFE-BOX,
+  SIDE,
   DEAD-STATE,
   sideWord,
   sideWords,
@@ -35,12 +36,13 @@ use Rattle.model.proofs.Lists.{empty, length-tabulate}
 use Rattle.model.proofs.Each.{Each, each-tabulate}
 use Rattle.model.proofs.Answers.{given-refused, refused-given, refused-number, refused-place}
 use Rattle.model.proofs.Fits.{FieldFits, SideFits, ListsFit}
+use Rattle.model.proofs.PlanBack.{side-kind}
 use Rattle.model.proofs.PlanCount.{sides-length}
 use Rattle.model.proofs.Words.{word-parts}
 use Rattle.model.proofs.PlanScans.{placed}
 
 -- a word that may follow: END at its index, a header of either kind, or a rank
-by-header : {G : Type 0} (s : PlanScan) (i w : ℕ) → mayFollow s i w ≡ true
+pub by-header : {G : Type 0} (s : PlanScan) (i w : ℕ) → mayFollow s i w ≡ true
     → (kindOf w ≡ END → fieldOf w ≡ i → G)
     → (kindOf w ≡ FORBIDDEN-BOX → s .section ≤ FORBIDDEN-BOX → fieldOf w < 16 → G)
     → (kindOf w ≡ UNSAFE-BOX → s .section ≤ UNSAFE-BOX → fieldOf w ≡ 0 → G)
@@ -67,6 +69,10 @@ side-told t w e =
     let v = sideOf w in
     let q = and-true (eqb w (sideWord t v)) (leb (v .low) (v .high)) e in
     (eqb-true w (sideWord t v) (q .0), (leb-true (v .low) (v .high) (q .1), omega arith))
+
+-- and is of its kind
+pub kind-told : (t w : ℕ) → t < 256 → isSide t w ≡ true → kindOf w ≡ SIDE
+kind-told t w l e = let (same, fits) = side-told t w e in ap kindOf same ∙ side-kind t (sideOf w) l fits
 
 -- the field of any word is one
 field-fits : (w : ℕ) → FieldFits (fieldOf w)

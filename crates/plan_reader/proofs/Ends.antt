@@ -1,121 +1,32 @@
 -- What a walk has seen in the end is what the model answers.
-use Prim.Native.Nat.{ℕ, suc, _+_, _-_, _*_, _≤_, _<_}
+use Prim.Native.Nat.{ℕ, suc, _+_, _-_, _≤_, _<_}
 use native.Mathlib.Omega.{arith}
 use native.Mathlib.Numerals.{add-one}
 use mathlib.Core.Path.{_≡_, refl, ap, _∙_}
 use mathlib.Core.Logic.{_⊎_, inl, inr}
 use mathlib.Core.Bool.{Bool, true, false, cond, _&&_}
-use mathlib.Core.Option.{Option, none, some}
+use mathlib.Core.Option.{none}
 use mathlib.Core.List.{List, [], _∷_}
 use lib.ListN.{length, take, drop, drop-of-length-le}
 use lib.Seq.{length-take-le, drop-cons, getD-take}
-use lib.Dec.{eqb, ltb, leb}
-use borrow.Author.Tests.{ltb-true, ltb-false, leb-true, eqb-true, eqb-false, eq-eqb, ne-eqb, lt-ltb, le-ltb, le-leb}
-use Rattle.model.specs.Answer.{Answer, given, refused, _then_}
+use lib.Dec.{eqb, ltb}
+use borrow.Author.Tests.{ltb-true, ltb-false, eqb-true, eqb-false, eq-eqb, ne-eqb, lt-ltb, le-ltb, le-leb}
+use Rattle.model.specs.Answer.{Answer, given, _then_}
 use Rattle.model.specs.Set.{at}
 use Rattle.model.specs.Layout.{kindOf, fieldOf, END}
 use Rattle.model.specs.State.{State}
 use Rattle.model.specs.Hold.{within}
 use Rattle.model.specs.Box.{inside}
-use Rattle.model.specs.Plan.{FORBIDDEN-BOX, UNSAFE-BOX, DEAD-STATE, SIDE, sideWord, sideOf}
-use Rattle.model.specs.StoredPlan.{PlanScan, isSide, mayFollow, inLayout, scanWord, scanFrom, boxOf, firstOf, Location, in-forbidden, in-unsafe, in-neither, locationOf, locate}
-use Rattle.model.proofs.Bools.{by-bool, by-cases, true-not-false, and-true}
-use Rattle.model.proofs.Answers.{refused-given}
-use Rattle.model.proofs.Words.{kind-word}
+use Rattle.model.specs.Plan.{FORBIDDEN-BOX, UNSAFE-BOX, DEAD-STATE, sideOf}
+use Rattle.model.specs.StoredPlan.{isSide, mayFollow, inLayout, scanWord, scanFrom, boxOf, firstOf, Location, locate}
+use Rattle.model.proofs.Bools.{by-bool, by-cases, and-true}
+use Rattle.model.proofs.PlanScanned.{by-header, kind-told}
+use Rattle.model.proofs.Located.{none-after}
 use Rattle.plan_reader.specs.declared.Located.{Located}
-use Rattle.plan_reader.specs.declared.Located.the-variants.{Forbidden, Unsafe, Neither, Refused}
 use Rattle.plan_reader.specs.declared.seen.Seen.{Seen}
 use Rattle.plan_reader.specs.Says.{answerOf}
-use Rattle.plan_reader.specs.Walk.{scanOf, NOTHING, OUTSIDE, located, before, outsideAt, sideNoted, endNoted, rankNoted, boxNoted, wordTaken, seenFrom}
-
--- a side's word is of its kind
-side-kind : (t w : ℕ) → t < 256 → isSide t w ≡ true → kindOf w ≡ SIDE
-unfolding isSide
-side-kind t w l e =
-    let same = eqb-true w (sideWord t (sideOf w)) (and-true _ _ e .0) in
-    ap kindOf same ∙ kind-word SIDE (t * 65536 + sideOf w .low * 256 + sideOf w .high) (omega arith)
-
--- where the state lies, by the box that was found, or else by the first ones of each kind
-unfoldable lies : Located → Option ℕ → Option ℕ → Location
-lies (Forbidden i) f u = in-forbidden i
-lies (Unsafe i) f u = in-unsafe i
-lies Neither f u = locationOf f u
-lies (Refused k i) f u = in-neither
-
--- what was found, and the answer that it stands for
-abbrev foundOf : Seen → Located
-foundOf s = located (s .found) (s .index)
-
-abbrev told : Seen → Answer Location
-told s = answerOf (foundOf s)
-
--- a box or nothing was found, and a section was begun
-pub record Sound (s : Seen) : Type 0 where
-  pub no-fault : s .found ≡ OUTSIDE → ⊥
-  pub begun : FORBIDDEN-BOX ≤ s .section
-
--- what was found is the answer where no box follows
-sound-answer : (s : Seen) → Sound s → told s ≡ given (lies (foundOf s) none none)
-unfolding answerOf lies locationOf located
-sound-answer s o =
-    by-bool (eqb (s .found) NOTHING) (λ e. rw e) λ e.
-    rw (e, ne-eqb (s .found) OUTSIDE (o .no-fault))
-    (by-bool (eqb (s .found) FORBIDDEN-BOX) (λ k. rw k) (λ k. rw k))
-
--- a box was found, so that none behind it counts
-found-stays : (found index : ℕ) (f g u v : Option ℕ) → eqb found NOTHING ≡ false → lies (located found index) f u ≡ lies (located found index) g v
-unfolding lies located
-found-stays found index f g u v e =
-    rw e
-    (by-bool (eqb found OUTSIDE) (λ k. rw k) λ k.
-    rw k (by-bool (eqb found FORBIDDEN-BOX) (λ r. rw r) (λ r. rw r)))
-
--- once an unsafe box or a rank came, no forbidden box follows
-module _ (n : ℕ) (most : n ≤ 8) (y : State) where
-  later-kind : (s : PlanScan) (i w : ℕ) → 6 < s .section → inLayout n s i w ≡ true → (6 < scanWord n s w .section) × (eqb (kindOf w) FORBIDDEN-BOX ≡ false)
-  unfolding inLayout scanWord mayFollow
-  later-kind s i w h e =
-      by-bool (s .ended) (λ d. true-not-false false (rw d at e) refl) λ d.
-      by-bool (ltb (s .sides) n)
-      (λ l.
-      let side : isSide (s .sides) w ≡ true = rw (d, l) at e in
-      rw (l, side-kind (s .sides) w (omega (arith, ltb-true (s .sides) n l, most)) side) (h, refl))
-      λ l.
-      let follows : mayFollow s i w ≡ true = rw (d, l) at e in
-      by-bool (eqb (kindOf w) END)
-      (λ k. rw (l, k) (h, rw (eqb-true (kindOf w) END k)))
-      λ k.
-      let above = leb-true (s .section) (kindOf w) (and-true _ _ (rw k at follows) .0) in
-      (by-bool (eqb (kindOf w) DEAD-STATE) (λ r. rw (l, k, r) (omega (arith, h, above))) (λ r. rw (l, k, r) (omega (arith, h, above))), ne-eqb (kindOf w) FORBIDDEN-BOX (λ q. omega (arith, h, above, q)))
-
-  none-after : (s : PlanScan) (i : ℕ) (ws : List ℕ) → 6 < s .section → scanFrom n s i ws ≡ given tt → firstOf n FORBIDDEN-BOX y i ws ≡ none
-  unfolding scanFrom firstOf
-  none-after s i [] h e = refl
-  none-after s i (w ∷ ws) h e =
-      by-bool (inLayout n s i w)
-      (λ l. let after = later-kind s i w h l in rw (after .1) (none-after (scanWord n s w) (suc i) ws (after .0) (rw l at e)))
-      (λ l. refused-given (rw l at e))
-
--- a box that begins at index i, which holds the state or not: it is found unless another was
-lies-forbidden : (found index : ℕ) (h : Bool) (i : ℕ) (f u : Option ℕ)
-    → lies (cond (eqb found NOTHING && h) (located FORBIDDEN-BOX i) (located found index)) f u ≡ lies (located found index) (cond h (some i) f) u
-unfolding lies located locationOf
-lies-forbidden found index h i f u =
-    by-bool (eqb found NOTHING) (λ e. rw e (by-bool h (λ k. rw k) (λ k. rw k)))
-    (λ e. rw e (rw e at (found-stays found index f (cond h (some i) f) u u e)))
-
-lies-unsafe : (found index : ℕ) (h : Bool) (i : ℕ) (u : Option ℕ)
-    → lies (cond (eqb found NOTHING && h) (located UNSAFE-BOX i) (located found index)) none u ≡ lies (located found index) none (cond h (some i) u)
-unfolding lies located locationOf
-lies-unsafe found index h i u =
-    by-bool (eqb found NOTHING) (λ e. rw e (by-bool h (λ k. rw k) (λ k. rw k)))
-    (λ e. rw e (rw e at (found-stays found index none none u (cond h (some i) u) e)))
-
--- answers that are the same if there is one
-same-then : (a : Answer (Unit {0})) (l m : Location) → (a ≡ given tt → l ≡ m) → (a then λ _. given l) ≡ (a then λ _. given m)
-unfolding _then_
-same-then (given tt) l m h = ap given (h refl)
-same-then (refused k p) l m h = refl
+use Rattle.plan_reader.specs.Walk.{scanOf, located, before, outsideAt, sideNoted, endNoted, rankNoted, boxNoted, wordTaken, seenFrom}
+use Rattle.plan_reader.proofs.Found.{lies, foundOf, told, Sound, sound-answer, lies-forbidden, lies-unsafe, same-then}
 
 -- n tasks, of a state of as many positions or more, and so many words in all
 module _ (n : ℕ) (x : State) (count : ℕ) (least : 0 < n) (most : n ≤ 8) (long : n ≤ length x) where
@@ -209,7 +120,7 @@ module _ (n : ℕ) (x : State) (count : ℕ) (least : 0 < n) (most : n ≤ 8) (l
 
     side-step : (i : ℕ) → isSide (s .sides) w ≡ true → answerAt t (suc i) ws ≡ answerAt s i (w ∷ ws)
     side-step i e =
-        let kind = side-kind (s .sides) w (omega (arith, h, most)) e in
+        let kind = kind-told (s .sides) w (omega (arith, h, most)) e in
         rw (side-scanned i e, side-found, skips FORBIDDEN-BOX i w ws (λ k. omega (arith, kind, k)), skips UNSAFE-BOX i w ws (λ k. omega (arith, kind, k)))
 
   -- ---- a word where no side is missing
@@ -242,22 +153,9 @@ module _ (n : ℕ) (x : State) (count : ℕ) (least : 0 < n) (most : n ≤ 8) (l
       unfolding scanFrom inLayout scanWord
       box-scanned = rw (le-ltb (s .sides) n h, e, ne-eqb (kindOf w) END not-end, ne-eqb (kindOf w) DEAD-STATE not-rank)
 
-      -- the rule of its kind
-      abbrev byKind : Bool
-      byKind =
-          cond (eqb (kindOf w) FORBIDDEN-BOX) (ltb (fieldOf w) 16)
-          (cond (eqb (kindOf w) UNSAFE-BOX) (eqb (fieldOf w) 0)
-          (eqb (kindOf w) DEAD-STATE && leb (s .least) (fieldOf w)))
-
       -- it is forbidden or unsafe
       box-kind : (kindOf w ≡ FORBIDDEN-BOX) ⊎ (kindOf w ≡ UNSAFE-BOX)
-      unfolding mayFollow
-      box-kind =
-          let rules : (leb (s .section) (kindOf w) && byKind) ≡ true = rw (ne-eqb (kindOf w) END not-end) at e in
-          by-bool (eqb (kindOf w) FORBIDDEN-BOX) (λ q. inl (eqb-true (kindOf w) FORBIDDEN-BOX q)) λ q.
-          by-bool (eqb (kindOf w) UNSAFE-BOX) (λ r. inr (eqb-true (kindOf w) UNSAFE-BOX r)) λ r.
-          let rank : (eqb (kindOf w) DEAD-STATE && leb (s .least) (fieldOf w)) ≡ true = rw (q, r) at (and-true (leb (s .section) (kindOf w)) byKind rules .1) in
-          absurd (not-rank (eqb-true (kindOf w) DEAD-STATE (and-true _ _ rank .0)))
+      box-kind = by-header (scanOf s) i w e (λ k f. absurd (not-end k)) (λ k late f. inl k) (λ k late f. inr k) (λ k f. absurd (not-rank k))
 
       -- where the state lies, if the words behind it are in the layout
       box-lies : scanFrom n (scanOf b) (suc i) ws ≡ given tt → liesAt b (suc i) ws ≡ liesAt s i (w ∷ ws)
@@ -276,12 +174,9 @@ module _ (n : ℕ) (x : State) (count : ℕ) (least : 0 < n) (most : n ≤ 8) (l
       box-step : answerAt b (suc i) ws ≡ answerAt s i (w ∷ ws)
       box-step = rw box-scanned (same-then _ _ _ box-lies)
 
-  -- a word that is neither END nor below the section
-  kind-begun : (s : Seen) (i w : ℕ) → Sound s → mayFollow (scanOf s) i w ≡ true → (kindOf w ≡ END → ⊥) → FORBIDDEN-BOX ≤ kindOf w
-  unfolding mayFollow
-  kind-begun s i w o e not-end =
-      let above = leb-true (s .section) (kindOf w) (and-true (leb (s .section) (kindOf w)) _ (rw (ne-eqb (kindOf w) END not-end) at e) .0) in
-      omega (arith, o .begun, above)
+  -- a word that may follow and is not END is of a section's kind
+  kind-begun : (s : Seen) (i w : ℕ) → mayFollow (scanOf s) i w ≡ true → (kindOf w ≡ END → ⊥) → FORBIDDEN-BOX ≤ kindOf w
+  kind-begun s i w e not-end = by-header (scanOf s) i w e (λ k f. absurd (not-end k)) (λ k late f. omega arith) (λ k late f. omega arith) (λ k f. omega arith)
 
   -- a word after END
   end-told : (s : Seen) (i w v : ℕ) (vs : List ℕ) → n ≤ s .sides → mayFollow (scanOf s) i w ≡ true → kindOf w ≡ END
@@ -336,7 +231,7 @@ module _ (n : ℕ) (x : State) (count : ℕ) (least : 0 < n) (most : n ≤ 8) (l
       by-bool (eqb (kindOf w) END)
       (λ k. ap told (stops s (endNoted count s i) i w ws (rw (l, e, k)) (end-stops s i)) ∙ end-step s i w ws h e (eqb-true (kindOf w) END k) o c)
       (λ k.
-      let above = kind-begun s i w o e (eqb-false (kindOf w) END k) in
+      let above = kind-begun s i w e (eqb-false (kindOf w) END k) in
       by-bool (eqb (kindOf w) DEAD-STATE)
       (λ r.
       let t = rankNoted n s (kindOf w) (fieldOf w) in
