@@ -1,4 +1,5 @@
--- The statements: words that they share, the desk examples, the sections of docs/SCOPE.md in its order, and the demands over them.
+-- The statements: words that they share, the desk examples, the sections of docs/SCOPE.md in its order, the demands over them, each call's refusals, the printer, stored
+-- plans, and what hosts are told.
 pub mod Terms
 pub mod Places
 pub mod Examples
