@@ -22,7 +22,7 @@ into the two slices, then the calls are made in order, accepted or not, on what 
     8 LOCATE tasks, positions, positions  a question to the stored plan, which is the plan slice at first
     9 STORE index, word                one word of the plan slice is replaced
    10 KEEP length                      from now on only that much of the plan slice is the stored plan
-   11 SWEEP tasks, positions, positions  a question at every state up to those positions, the last task's fastest
+   11 SWEEP tasks, positions, positions  a question at every state of the tasks up to those positions, the last task's fastest; positions past the tasks are 255
 
 Output, a line each:
     case NUMBER: planned WORDS         or refused N at P
@@ -34,7 +34,7 @@ and for each call that prints
     rounds G F B H R [POSITIONS] GRANTS  how many bids were granted, finished, busy, held and refused, and the record after them
     ANSWER                             for a question: forbidden INDEX, unsafe INDEX, neither or refused N at P
     swept CHECKSUM:DIGITS              for a sweep: the checksum of the indices, a word each, 0 for none, P for a refusal; and for each state
-                                       1 forbidden, 2 unsafe, 0 neither, 'x' refused
+                                       1 forbidden, 2 unsafe, 0 neither, 'x' refused; over 512 states '~' and the checksum of these bytes, 255 for 'x'
 RECORD, POKE, LEND, STORE and KEEP print nothing. The checksum is FNV-1a of 32 bits over the slice's bytes, a word's lowest byte first, in eight hexadecimal digits.
 """
 
@@ -49,9 +49,12 @@ from brute import CLAIM, DEVICE, END, FRESH, RELEASE, TASK, Record, Set, grid_of
 MAX_SET = 4097
 MAX_MAP = 65600
 MAX_PLAN = 16400
-MAX_ROUTE = 512
 MAX_CALLS = 512
-MAX_SWEEP = 512
+MAX_SWEEP = 65536
+
+# A sweep is printed whole up to this many states, and no route slice is longer.
+ROW = 512
+MAX_ROUTE = ROW
 
 BID, AGAIN, ROUTE, RECORD, POKE, LEND, BID_IN_PLACE, ROUNDS, LOCATE, STORE, KEEP, SWEEP = range(12)
 
@@ -188,9 +191,11 @@ class Play:
         return brute.locate(state, self.plan[: self.kept], tasks)
 
     def sweep(self, tasks, last):
-        answers = [self.locate(state, tasks) for state in itertools.product(*(range(position + 1) for position in last))]
+        states = itertools.product(*(range(position + 1) for position in last[:tasks]))
+        answers = [self.locate(state + (255,) * (8 - tasks), tasks) for state in states]
         marks = [{"neither": 0, "forbidden": 1, "unsafe": 2, "refused": 255}[answer[0]] for answer in answers]
-        return "swept %08X:%s" % (fnv(word_bytes(answer[-1] if answer[1:] else 0 for answer in answers)), route_text(marks))
+        shown = route_text(marks) if len(marks) <= ROW else "~%08X" % fnv(marks)
+        return "swept %08X:%s" % (fnv(word_bytes(answer[-1] if answer[1:] else 0 for answer in answers)), shown)
 
     def call(self, kind, a, b, c):
         if kind in (BID, BID_IN_PLACE):
@@ -525,14 +530,8 @@ def boxes_in(plan):
 
 
 def own_plan_calls(s):
-    """Questions to the plan that the analysis left: at every state of a small grid, or else in the first and the last box, at the start and at the end."""
-    plan, tasks, lengths = brute.plan_of(s), len(s.tasks), lengths_of(s)
-    calls = [(KEEP, len(plan))]
-    if grid_of(s) <= MAX_SWEEP // 2:
-        return calls + [(SWEEP, tasks) + position_words(lengths)]
-    boxes = boxes_in(plan)
-    corners = [[word >> 8 & 255 for word in plan[head + 1 : last + 1]] for head, last in boxes[:1] + boxes[-1:]]
-    return calls + [(LOCATE, tasks) + position_words(state + [255] * (8 - tasks)) for state in corners + [[0] * tasks, list(lengths)]]
+    """Questions to the plan that an analysis with room for it left, at every state."""
+    return [(KEEP, plan_length(s)), (SWEEP, len(s.tasks)) + position_words(lengths_of(s))]
 
 
 def put(plan, place, *words):
@@ -597,11 +596,21 @@ def spoilt_orders(plan):
 
 
 def spoilt_ends(dice, plan):
-    """A wrong count, words behind END, and plans cut at every place."""
+    """A wrong count, and words behind END."""
     count = len(plan) - 1
     plans = [plan[:-1] + [END << 28 | (count + wrong) % 2**28] for wrong in (1, -1, 256, 1 << dice.between(9, 27))]
-    plans += [plan + more for more in ([END << 28 | len(plan)], [plan[-1]], [0x90000000 | 0xFFFFFFF], [0x60000000], [0], [0xFFFFFFFF, 0])]
-    return plans + [plan[:length] for length in range(len(plan))]
+    return plans + [plan + more for more in ([END << 28 | len(plan)], [plan[-1]], [0x90000000 | 0xFFFFFFF], [0x60000000], [0], [0xFFFFFFFF, 0])]
+
+
+def damaged(dice, plan, most):
+    """Up to so many plans damaged at one of its places, and the plan cut at every length."""
+    spoilt = spoilt_heads(dice, plan) + spoilt_sides(dice, plan) + spoilt_ranks(plan) + spoilt_orders(plan) + spoilt_ends(dice, plan)
+    return dice.mixed(spoilt)[:most] + [plan[:length] for length in range(len(plan))]
+
+
+def bit_changes(plan):
+    """The plan with any one bit of its words turned."""
+    return [plan[:place] + [plan[place] ^ 1 << bit] + plan[place + 1 :] for place in range(len(plan)) for bit in range(32)]
 
 
 def random_plan(dice, tasks):
@@ -654,10 +663,10 @@ def store_calls(slice_, plan):
 
 
 def question_cases(s, asked):
-    """Cases on a set that store one plan after the other over its own, and make on each the calls that come with it."""
+    """Cases on a set that ask its own plan, then store one plan after the other over it, and make on each the calls that come with it."""
     own = brute.plan_of(s)
     fresh = brute.over(own, [PLAN_FILL] * max(len(plan) for plan in [own] + [plan for plan, _ in asked]))
-    calls, now = [], fresh
+    calls, now = own_plan_calls(s), fresh
     cases = [calls]
     for plan, questions in asked:
         more = store_calls(now, plan) + questions
@@ -671,16 +680,32 @@ def question_cases(s, asked):
     return [Case(words_of(*s), grid_of(s), len(fresh), calls) for calls in cases]
 
 
+def small_plan_set(dice):
+    """A random set whose plan has a box, and at most 48 words."""
+    while True:
+        s = tight_set(dice, 60)
+        if 1 < plan_length(s) <= 48:
+            return s
+
+
+def wide_plan(dice, tasks):
+    """A plan of the layout with a box of each kind, and a rank."""
+    sides = [[0x80000000 | task << 16 | dice.below(3) << 8 | dice.between(3, 255) for task in range(tasks)] for _ in range(2)]
+    return closed([0x60000000 | dice.below(16)] + sides[0] + [0x70000000] + sides[1] + [0x90000000 | dice.below(1000)])
+
+
+def at_edges(dice, plan, tasks, plans):
+    """These plans, damaged from one, each asked at a state near that one's boxes."""
+    return [(words, [locate_call(dice, tasks, edge_positions(dice, plan, tasks))]) for words in plans]
+
+
 def stored_cases(dice):
-    """Damaged plans of known and random sets, random plans, and words at random."""
+    """Damaged plans of known and random sets, random plans, damaged ones for many tasks, and words at random."""
     cases = []
     small = [crossing(2), users(1, 2, 1), users(2, 3, 1), ring(2), written_set(SEVERAL_BLOCKERS[0]), Set([1], [[]] + users(1, 2, 1).tasks)]
-    for s in small + [tight_set(dice, 60) for _ in range(8)]:
+    for s in small + [small_plan_set(dice) for _ in range(8)]:
         plan, tasks = brute.plan_of(s), len(s.tasks)
-        if len(plan) > 48:
-            continue
-        spoilt = spoilt_heads(dice, plan) + spoilt_sides(dice, plan) + spoilt_ranks(plan) + spoilt_orders(plan) + spoilt_ends(dice, plan)
-        asked = [(words, [locate_call(dice, tasks, edge_positions(dice, plan, tasks))]) for words in dice.mixed(spoilt)[:90]]
+        asked = at_edges(dice, plan, tasks, damaged(dice, plan, 90))
         asked += [(words, [locate_call(dice, count, [0] * 8) for count in (0, 9)]) for words in ([], plan, plan[:-1])]
         cases += question_cases(s, asked)
     least = Set([], [[]])
@@ -689,6 +714,11 @@ def stored_cases(dice):
         plans += [(plan, all_around(dice, plan, tasks)) for plan in (random_plan(dice, tasks) for _ in range(20))]
         plans += [(words, [locate_call(dice, tasks, [1] * tasks)]) for words in (random_words(dice, tasks) for _ in range(40))]
         plans += [(mutated(dice, random_plan(dice, tasks)), [locate_call(dice, tasks, [1] * tasks)]) for _ in range(40)]
+    for tasks in range(5, 9):
+        plan = wide_plan(dice, tasks)
+        plans += at_edges(dice, plan, tasks, damaged(dice, plan, 60))
+    plan = wide_plan(dice, 8)
+    plans += at_edges(dice, plan, 8, bit_changes(plan))
     return cases + question_cases(least, plans)
 
 
@@ -804,16 +834,20 @@ def short_cases(dice, s):
         Case(words, dice.below(grid), dice.below(plan + 1), calls),
         Case(words, grid + dice.below(3), plan - 1, round_calls(dice, s, sum(lengths_of(s))), True),
         Case(words, grid, dice.below(plan), calls),
-        Case(words, grid, plan, calls),
+        Case(words, grid, plan, calls + own_plan_calls(s)),
     ]
 
 
 def refused_case(dice, words):
     """Words that may be refused, with small slices and every kind of call."""
-    accepted = isinstance(brute.read_set(words), Set)
-    long_map = min(MAX_MAP, grid_of(brute.read_set(words))) if accepted else dice.below(12)
+    s = brute.read_set(words)
+    accepted = isinstance(s, Set)
+    long_map = min(MAX_MAP, grid_of(s)) if accepted else dice.below(12)
     calls = [(BID, dice.below(9)), (AGAIN,), (ROUTE, dice.below(6)), (BID_IN_PLACE, dice.below(9))]
-    return Case(words, long_map, dice.below(20), [record_call([dice.below(3)] + [0] * 7, dice.bits())] + calls if dice.one_in(3) else calls)
+    long_plan = dice.below(20)
+    if dice.one_in(3):
+        calls.insert(0, record_call([dice.below(3)] + [0] * 7, dice.bits()))
+    return Case(words, long_map, long_plan, calls + own_plan_calls(s) if accepted and plan_length(s) <= long_plan else calls)
 
 
 def small_cases(dice):
@@ -874,6 +908,13 @@ def all_cases():
     return named_cases(dice) + small_cases(dice) + faulty_cases(dice) + large_cases(dice) + stored_cases(dice)
 
 
+def swept_states(tasks, low, high):
+    """How many states a sweep has; no position is given past the tasks."""
+    last = positions_in(low, high)
+    assert 1 <= tasks <= 8 and not any(last[tasks:])
+    return math.prod(position + 1 for position in last)
+
+
 def encoded(cases):
     """The input's bytes."""
     words = [len(cases)]
@@ -886,7 +927,7 @@ def encoded(cases):
             assert call[0] != LEND or call[1] <= case.map_length
             assert call[0] != STORE or call[1] < case.plan_length
             assert call[0] != KEEP or call[1] <= case.plan_length
-            assert call[0] != SWEEP or math.prod(position + 1 for position in positions_in(*call[2:])) <= MAX_SWEEP
+            assert call[0] != SWEEP or swept_states(*call[1:]) <= MAX_SWEEP
             words += call
     return word_bytes(words)
 

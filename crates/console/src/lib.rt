@@ -1,9 +1,13 @@
-// What the programs write to standard output: text, numbers, refusals, and the answers of the calls.
+// What the programs write to standard output: text, numbers, refusals, and the answers of the calls; and the states that they ask about.
+mod states;
+
 use analysis::Outcome;
 use broker::AgainAnswer;
 use broker::BidAnswer;
 use libc::STDOUT_FILENO;
 use plan_reader::Located;
+pub use states::positions_up_to;
+pub use states::state_at;
 
 pub fn text(bytes: &[u8]) {
     io::write_all(STDOUT_FILENO, bytes);

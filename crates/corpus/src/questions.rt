@@ -22,18 +22,15 @@ const REFUSED: u8 = route::NO_STEP;
 // An index goes into a checksum modulo this.
 const WORDS: usize = 0x1_0000_0000;
 
-// A byte has so many values.
-const BYTES: usize = 256;
-
-// The most states of a sweep: so many that a line shows them whole.
-const MAX_STATES: usize = text::ROW;
+// The most states of a sweep: those of the largest grid.
+const MAX_STATES: usize = model::MAX_GRID as usize;
 
 pub fn locate(plan: &[u32], tasks: usize, state: [u8; model::MAX_TASKS]) {
     console::located(plan_reader::locate(state, plan, tasks));
     console::text(b"\n");
 }
 
-// A question at every state up to these positions, the last task's fastest.
+// A question at every state of so many tasks up to these positions, the last task's fastest; 0 stands for those of absent tasks.
 pub fn sweep(plan: &[u32], tasks: usize, last: [u8; model::MAX_TASKS]) {
     let mut row = [0u8; MAX_STATES];
     let n = states_up_to(last);
@@ -45,21 +42,14 @@ fn show_row(plan: &[u32], tasks: usize, last: [u8; model::MAX_TASKS], row: &mut 
     text::sweep(sum, row);
 }
 
-// How many positions there are up to this one.
-fn positions_up_to(last: u8) -> usize
-    ensures { λ r. ⌜ (1 ≤ r) × (r ≤ 256) ⌝ }
-{
-    last as usize + 1
-}
-
 // How many states there are up to these positions, counted no further than a sweep goes.
 fn states_up_to(last: [u8; model::MAX_TASKS]) -> usize
-    ensures { λ r. ⌜ r ≤ 512 ⌝ }
+    ensures { λ r. ⌜ r ≤ 65536 ⌝ }
 {
     let mut states = 1;
     let mut t = 0;
     while t < model::MAX_TASKS {
-        states = least(states * positions_up_to(last[t]), MAX_STATES);
+        states = least(states * console::positions_up_to(last[t]), MAX_STATES);
         t += 1;
     }
     states
@@ -69,26 +59,12 @@ fn fill_row(plan: &[u32], tasks: usize, last: [u8; model::MAX_TASKS], row: &mut 
     let mut sum = sums::START;
     let mut rank = 0;
     while rank < row.len() {
-        let spot = spot_of(plan_reader::locate(state_at(last, rank), plan, tasks));
+        let spot = spot_of(plan_reader::locate(console::state_at(last, tasks, rank), plan, tasks));
         row[rank] = spot.mark;
         sum = sums::sum_word(sum, (spot.index % WORDS) as u32);
         rank += 1;
     }
     sum
-}
-
-// The state of this rank among those up to these positions.
-fn state_at(last: [u8; model::MAX_TASKS], rank: usize) -> [u8; model::MAX_TASKS] {
-    let mut state = [0u8; model::MAX_TASKS];
-    let mut rest = rank;
-    let mut t = model::MAX_TASKS;
-    while 0 < t {
-        t -= 1;
-        let positions = positions_up_to(last[t]);
-        state[t] = (rest % positions % BYTES) as u8;
-        rest /= positions;
-    }
-    state
 }
 
 fn spot_of(said: Located) -> Spot {

@@ -58,10 +58,14 @@ pub fn steps(steps: &[u8]) {
     row(steps);
 }
 
-// The line of a sweep: the checksum of the indices, and a character for each state.
+// The line of a sweep: the checksum of the indices, and a character for each state, or a checksum of these too.
 pub fn sweep(sum: u32, row: &[u8]) {
     console::text(b"swept");
     hex(sum);
+    if ROW < row.len() {
+        checksum(b":~", bytes_sum(row));
+        return;
+    }
     steps(row);
 }
 

@@ -1,6 +1,5 @@
-// Questions to the stored plans of examples a, d, e and f.
+// Questions to the stored plans of examples a, d, e, f and g, at every state.
 use crate::lines::UNTOUCHED;
-use crate::lines::say_steps;
 use crate::sets;
 use plan_reader::Located;
 
@@ -23,11 +22,14 @@ const BEYOND: usize = 0x1_0000_0002;
 // A position of a task that the plan doesn't have.
 const UNREAD: u8 = 255;
 
-// The positions of d's tasks: 0 to 6.
-const SIDE_OF_D: usize = 7;
+// The last positions of the examples' tasks; f and g have one task, without actions.
+const LAST_OF_A: [u8; model::MAX_TASKS] = [4, 4, 0, 0, 0, 0, 0, 0];
 
-// A byte has so many values.
-const BYTES: usize = 256;
+const LAST_OF_D: [u8; model::MAX_TASKS] = [6, 6, 0, 0, 0, 0, 0, 0];
+
+const LAST_OF_E: [u8; model::MAX_TASKS] = [2, 2, 2, 0, 0, 0, 0, 0];
+
+const NO_ACTIONS: [u8; model::MAX_TASKS] = [0, 0, 0, 0, 0, 0, 0, 0];
 
 // The state of two tasks.
 fn at_two(p: u8, q: u8) -> [u8; model::MAX_TASKS] {
@@ -41,12 +43,48 @@ fn question_line(label: &[u8], state: [u8; model::MAX_TASKS], plan: &[u32], task
     console::text(b"\n");
 }
 
-// The plan of a at states of every kind, for wrong task counts, cut short and with a word more.
+// The states up to these positions, so many of them.
+fn states_line(
+    label: &[u8],
+    plan: &[u32],
+    tasks: usize,
+    last: [u8; model::MAX_TASKS],
+    states: usize,
+) {
+    console::text(label);
+    console::text(b" at every state:");
+    say_spots(plan, tasks, last, states);
+    console::text(b"\n");
+}
+
+fn say_spots(plan: &[u32], tasks: usize, last: [u8; model::MAX_TASKS], states: usize) {
+    let mut rank = 0;
+    while rank < states {
+        say_spot(plan_reader::locate(console::state_at(last, tasks, rank), plan, tasks));
+        rank += 1;
+    }
+}
+
+// `-` in no box, else `f` or `u` for the kind of the box, and its index.
+fn say_spot(said: Located) {
+    match said {
+        Located::Forbidden { index } => console::named(b" f", index),
+        Located::Unsafe { index } => console::named(b" u", index),
+        Located::Neither => console::text(b" -"),
+        Located::Refused { number, place } => {
+            console::text(b" ");
+            console::refusal(number, place);
+        }
+    }
+}
+
+// The plan of a at every state and at some by name, for wrong task counts, cut short and with a word more.
 pub fn on_a() {
     let words = sets::A;
     let mut map = [UNTOUCHED; sets::GRID_OF_A];
     let mut plan = [0u32; PLAN_OF_A];
     analysis::analyse(&words, &mut map, &mut plan);
+    states_line(b"plan of a", &plan, 2, LAST_OF_A, sets::GRID_OF_A);
     states_of_a(&plan);
     tasks_of_a(&plan);
     cut_line(b"plan of a without END", &plan, NO_END);
@@ -86,48 +124,27 @@ fn tasks_of_a(plan: &[u32]) {
     question_line(b"no words for nine tasks", at_two(1, 1), &[], NINE);
 }
 
-// The plan of d at every state, to be held to its map: 0 in no box, 1 in a forbidden one, 2 in an unsafe one.
+// The plan of d, where unsafe boxes hold forbidden states.
 pub fn on_d() {
     let words = sets::D;
     let mut map = [UNTOUCHED; sets::GRID_OF_D];
     let mut plan = [0u32; PLAN_OF_D];
     analysis::analyse(&words, &mut map, &mut plan);
-    let mut row = [UNTOUCHED; sets::GRID_OF_D];
-    fill_row(&plan, &mut row);
-    console::text(b"plan of d at every state");
-    say_steps(&row);
-    console::text(b"\n");
+    states_line(b"plan of d", &plan, 2, LAST_OF_D, sets::GRID_OF_D);
 }
 
-fn fill_row(plan: &[u32], row: &mut [u8]) {
-    let mut i = 0;
-    while i < row.len() {
-        row[i] = mark_at(plan, i);
-        i += 1;
-    }
-}
-
-// The state of this rank.
-fn mark_at(plan: &[u32], rank: usize) -> u8 {
-    let p = (rank / SIDE_OF_D % BYTES) as u8;
-    let q = (rank % SIDE_OF_D) as u8;
-    match plan_reader::locate(at_two(p, q), plan, 2) {
-        Located::Forbidden { index: _ } => model::FORBIDDEN,
-        Located::Unsafe { index: _ } => model::UNSAFE,
-        Located::Neither => model::OPEN,
-        _ => UNTOUCHED,
-    }
-}
-
-// The plan of e where all three tasks hold the device, and that of f, which is END alone.
+// The plan of e, in which all three tasks may not hold the device, and those of f and g, which are END alone.
 pub fn on_others() {
     let words = sets::E;
     let mut map = [UNTOUCHED; sets::GRID_OF_E];
     let mut plan = [0u32; PLAN_OF_E];
     analysis::analyse(&words, &mut map, &mut plan);
-    let held = [1, 1, 1, UNREAD, UNREAD, UNREAD, UNREAD, UNREAD];
-    question_line(b"plan of e at 1 1 1", held, &plan, 3);
-    let released = [1, 1, 2, UNREAD, UNREAD, UNREAD, UNREAD, UNREAD];
-    question_line(b"plan of e at 1 1 2", released, &plan, 3);
-    question_line(b"plan of f", at_two(0, UNREAD), &[0x5000_0000], 1);
+    states_line(b"plan of e", &plan, 3, LAST_OF_E, sets::GRID_OF_E);
+    let mut end = [0u32; 1];
+    let f = sets::F;
+    analysis::analyse(&f, &mut map, &mut end);
+    states_line(b"plan of f", &end, 1, NO_ACTIONS, 1);
+    let g = sets::G;
+    analysis::analyse(&g, &mut map, &mut end);
+    states_line(b"plan of g", &end, 1, NO_ACTIONS, 1);
 }

@@ -60,6 +60,10 @@ pub const E: [u32; 11] = [
 
 pub const GRID_OF_E: usize = 27;
 
+pub const F: [u32; 2] = [0x2000_0000, 0x5000_0001];
+
+pub const G: [u32; 3] = [0x1000_0008, 0x2000_0000, 0x5000_0002];
+
 // Examples d and e.
 pub fn mapped_sets() {
     let d = D;
@@ -73,8 +77,10 @@ pub fn mapped_sets() {
 // Examples f to k.
 pub fn small_sets() {
     let mut map = [UNTOUCHED; 1];
-    analyse_line(b"f", &[0x2000_0000, 0x5000_0001], &mut map);
-    analyse_line(b"g", &[0x1000_0008, 0x2000_0000, 0x5000_0002], &mut map);
+    let f = F;
+    analyse_line(b"f", &f, &mut map);
+    let g = G;
+    analyse_line(b"g", &g, &mut map);
     analyse_line(b"g, capacity 9", &[0x1000_0009], &mut map);
     analyse_line(b"h", &[0x3000_0000], &mut map);
     analyse_line(b"i", &[0x2000_0000], &mut map);

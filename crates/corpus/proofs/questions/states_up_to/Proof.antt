@@ -9,7 +9,7 @@ use Rattle.corpus.proofs.questions.states_up_to.Statement.{statement}
 use Rattle.corpus.proofs.questions.states_up_to.Tie as tie
 
 abbrev Inv-loop : tie.InvT-loop
-Inv-loop last states₀ t₀ states t = (states ≤ 512) × (length last ≡ 8)
+Inv-loop last states₀ t₀ states t = (states ≤ 65536) × (length last ≡ 8)
 
 abbrev μ-loop : tie.MeasureT-loop
 μ-loop last states₀ t₀ states t = 8 - t
