@@ -19,24 +19,17 @@ use Rattle.model.proofs.Lists.{tabulate-take}
 use Rattle.model.proofs.Boxes.{inside-bounds, inside-intro}
 use Rattle.model.proofs.FirstBoxes.{BoxKind, forbidden-kind, unsafe-kind, Begins, first-of}
 use Rattle.model.proofs.Located.{Accepted, by-count, counted, uncounted, answered, box-room}
-use Rattle.demands.specs.StoredPlans.{HoldsAt, Lies}
+use Rattle.demands.specs.StoredPlans.{HoldsAt, FirstHolds, NoneHolds, Lies}
 
 module _ (x : State) (ws : List ℕ) (n : ℕ) where
-  -- no box of the kind holds the state; the box at i does, and none before it
-  abbrev NoBox : ℕ → Type 0
-  NoBox kind = (j : ℕ) → HoldsAt kind x ws n j → ⊥
-
-  abbrev FirstBox : ℕ → ℕ → Type 0
-  FirstBox kind i = HoldsAt kind x ws n i × ((j : ℕ) → j < i → HoldsAt kind x ws n j → ⊥)
-
   -- what is said of a state that lies there
   abbrev Says : Location → Type 0
-  Says (in-forbidden i) = FirstBox 6 i
-  Says (in-unsafe i) = HoldsAt 7 x ws n i × ((j : ℕ) → j < i → HoldsAt 7 x ws n j → ⊥) × NoBox 6
-  Says in-neither = NoBox 6 × NoBox 7
+  Says (in-forbidden i) = FirstHolds 6 x ws n i
+  Says (in-unsafe i) = NoneHolds 6 x ws n × FirstHolds 7 x ws n i
+  Says in-neither = NoneHolds 6 x ws n × NoneHolds 7 x ws n
 
   -- there is one first box
-  first-once : (kind i j : ℕ) → FirstBox kind i → FirstBox kind j → i ≡ j
+  first-once : (kind i j : ℕ) → FirstHolds kind x ws n i → FirstHolds kind x ws n j → i ≡ j
   first-once kind i j f g =
       let not-before : i < j → ⊥ = λ l. g .1 i l (f .0) in
       let not-after : j < i → ⊥ = λ l. f .1 j l (g .0) in
@@ -45,13 +38,13 @@ module _ (x : State) (ws : List ℕ) (n : ℕ) where
   -- so it is said of one place
   says-once : (l m : Location) → Says l → Says m → l ≡ m
   says-once (in-forbidden i) (in-forbidden j) h k = ap in-forbidden (first-once 6 i j h k)
-  says-once (in-forbidden i) (in-unsafe j) h k = absurd (k .2 i (h .0))
+  says-once (in-forbidden i) (in-unsafe j) h k = absurd (k .0 i (h .0))
   says-once (in-forbidden i) in-neither h k = absurd (k .0 i (h .0))
-  says-once (in-unsafe i) (in-forbidden j) h k = absurd (h .2 j (k .0))
-  says-once (in-unsafe i) (in-unsafe j) h k = ap in-unsafe (first-once 7 i j (h .0, h .1) (k .0, k .1))
-  says-once (in-unsafe i) in-neither h k = absurd (k .1 i (h .0))
+  says-once (in-unsafe i) (in-forbidden j) h k = absurd (h .0 j (k .0))
+  says-once (in-unsafe i) (in-unsafe j) h k = ap in-unsafe (first-once 7 i j (h .1) (k .1))
+  says-once (in-unsafe i) in-neither h k = absurd (k .1 i (h .1 .0))
   says-once in-neither (in-forbidden j) h k = absurd (h .0 j (k .0))
-  says-once in-neither (in-unsafe j) h k = absurd (h .1 j (k .0))
+  says-once in-neither (in-unsafe j) h k = absurd (h .1 j (k .1 .0))
   says-once in-neither in-neither h k = refl
 
 module _ (x : State) (ws : List ℕ) (n : ℕ) (full : length x ≡ 8) (a : Accepted ws n) where
@@ -90,7 +83,7 @@ module _ (x : State) (ws : List ℕ) (n : ℕ) (full : length x ≡ 8) (a : Acce
         }
 
     -- what is found of the kind: nothing where no box holds the state, else the first that does
-    looked : ((firstOf n kind (take n x) 0 ws ≡ none) × NoBox x ws n kind) ⊎ ((j : ℕ) × (firstOf n kind (take n x) 0 ws ≡ some j) × FirstBox x ws n kind j)
+    looked : ((firstOf n kind (take n x) 0 ws ≡ none) × NoneHolds kind x ws n) ⊎ ((j : ℕ) × (firstOf n kind (take n x) 0 ws ≡ some j) × FirstHolds kind x ws n j)
     looked =
         by-cases (first-of n kind (take n x) 0 ws)
         (λ r. inl (r .0, λ j w. r .1 j (holds-begins j w)))
@@ -106,7 +99,7 @@ module _ (x : State) (ws : List ℕ) (n : ℕ) (full : length x ≡ 8) (a : Acce
       by-cases (looked 6 forbidden-kind)
       (λ f. by-cases (looked 7 unsafe-kind)
       (λ u. rw (← is, f .0, u .0) (f .1, u .1))
-      (λ u. rw (← is, f .0, u .1) (u .2 .0, u .2 .1, f .1)))
+      (λ u. rw (← is, f .0, u .1) (f .1, u .2)))
       (λ f. rw (← is, f .1) (f .2))
 
   -- and where it lies, it is said to lie

@@ -175,7 +175,7 @@ module _ (x : State) (ws : List ℕ) (n : ℕ) where
 pub plan-faults-hold : PlanFaults
 plan-faults-hold = record {
   exact = λ x ws n i p q l. Iff·trans (scan-refused x ws n p q 23 i) (plan-place n ws i q l);
-  longer = λ x ws n i p q. Iff·trans (scan-refused x ws n p q 23 i) (layout-place n ws i);
+  every-place = λ x ws n i p q. Iff·trans (scan-refused x ws n p q 23 i) (layout-place n ws i);
   task-count = λ x ws n i. (
     (λ e. by-refusal x ws n 22 i e (λ p q z f. absurd (omega arith)) (λ o z h. (o, h))),
     (λ (o, z). rw z (uncounted x ws n o)),

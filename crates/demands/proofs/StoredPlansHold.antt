@@ -30,6 +30,7 @@ questions-hold =
       no-end = rw plan;
       after-end = rw plan;
       same-rank = refl;
+      falling-rank = refl;
       counts-itself = refl;
       both-kinds = refl;
       task-twice = refl;

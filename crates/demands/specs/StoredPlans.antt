@@ -74,10 +74,12 @@ pub record OutsideAt (Fits : List ℕ → Type 0) (n : ℕ) (ws : List ℕ) (i :
 
 -- the refusals, each with its place
 pub record PlanFaults : Type 0 where
-  -- where END's field can count a box more: 23 at i exactly if the words before i begin a plan and with the one at i they don't; with none at i, END is missing
+  -- where END's field can still count nine words more, a box for eight tasks: 23 at i exactly if the words before i begin a plan and with the one at i they don't; with
+  -- none at i, END is missing
   pub exact : (x : State) (ws : List ℕ) (n i : ℕ) → 1 ≤ n → n ≤ 8 → i + 9 < 0x10000000 → (locate x ws n ≡ refused 23 i) ↔ OutsideAt (BeginsPlan n) n ws i
-  -- at every i, in longer lists too: exactly if the words before i keep to the layout and with the one at i they don't; with none at i, END is missing
-  pub longer : (x : State) (ws : List ℕ) (n i : ℕ) → 1 ≤ n → n ≤ 8 → (locate x ws n ≡ refused 23 i) ↔ OutsideAt (KeepsLayout n) n ws i
+  -- at every i, also where END's field can't count what would follow: exactly if the words before i keep to the layout and with the one at i they don't; with none at
+  -- i, END is missing
+  pub every-place : (x : State) (ws : List ℕ) (n i : ℕ) → 1 ≤ n → n ≤ 8 → (locate x ws n ≡ refused 23 i) ↔ OutsideAt (KeepsLayout n) n ws i
   -- 22, at 0, exactly for a task count outside 1 to 8, whatever the words and the state
   pub task-count : (x : State) (ws : List ℕ) (n i : ℕ) → (locate x ws n ≡ refused 22 i) ↔ (((n ≡ 0) ⊎ (8 < n)) × (i ≡ 0))
   -- 23 in one state is 23 in every state, at the same place
@@ -91,16 +93,22 @@ pub record HoldsAt (kind : ℕ) (x : State) (ws : List ℕ) (n i : ℕ) : Type 0
   pub of-kind : at ws i / 0x10000000 ≡ kind
   pub between : (t : ℕ) → t < n → (at ws (i + 1 + t) / 256 % 256 ≤ at x t) × (at x t ≤ at ws (i + 1 + t) % 256)
 
+-- the box of this kind at i holds the state, and none of its kind before it does
+abbrev pub FirstHolds : ℕ → State → List ℕ → ℕ → ℕ → Type 0
+FirstHolds kind x ws n i = HoldsAt kind x ws n i × ((j : ℕ) → j < i → HoldsAt kind x ws n j → ⊥)
+
+-- no box of this kind holds the state
+abbrev pub NoneHolds : ℕ → State → List ℕ → ℕ → Type 0
+NoneHolds kind x ws n = (j : ℕ) → HoldsAt kind x ws n j → ⊥
+
 -- where a state lies, of accepted words and eight positions
 pub record Lies (x : State) (ws : List ℕ) (n : ℕ) : Type 0 where
-  -- Forbidden with i: the forbidden box at i holds the state, and none before it does
-  pub forbidden : (i : ℕ) → (locate x ws n ≡ given (in-forbidden i)) ↔ (HoldsAt 6 x ws n i × ((j : ℕ) → j < i → HoldsAt 6 x ws n j → ⊥))
-  -- Unsafe with i: the unsafe box at i holds it, none before it does, and no forbidden one at all
-  pub unsafe : (i : ℕ)
-      → (locate x ws n ≡ given (in-unsafe i))
-      ↔ (HoldsAt 7 x ws n i × ((j : ℕ) → j < i → HoldsAt 7 x ws n j → ⊥) × ((j : ℕ) → HoldsAt 6 x ws n j → ⊥))
-  -- Neither: no box does
-  pub neither : (locate x ws n ≡ given in-neither) ↔ (((j : ℕ) → HoldsAt 6 x ws n j → ⊥) × ((j : ℕ) → HoldsAt 7 x ws n j → ⊥))
+  -- Forbidden with i: the forbidden box at i is the first that holds the state
+  pub forbidden : (i : ℕ) → (locate x ws n ≡ given (in-forbidden i)) ↔ FirstHolds 6 x ws n i
+  -- Unsafe with i: no forbidden box holds it, and the unsafe box at i is the first that does
+  pub unsafe : (i : ℕ) → (locate x ws n ≡ given (in-unsafe i)) ↔ (NoneHolds 6 x ws n × FirstHolds 7 x ws n i)
+  -- Neither: no box holds it
+  pub neither : (locate x ws n ≡ given in-neither) ↔ (NoneHolds 6 x ws n × NoneHolds 7 x ws n)
 
 -- an analysis that is accepted with k plan words
 module _ (words mapped plan : List ℕ) (k : ℕ) where
@@ -152,8 +160,9 @@ pub record Questions : Type 0 where
   pub cut-short : locate (asked 1 1) (take 8 planA) 2 ≡ refused 23 8
   pub no-end : locate (asked 1 1) (take 10 planA) 2 ≡ refused 23 10
   pub after-end : locate (asked 1 1) (planA ++ (0x5000000B ∷ [])) 2 ≡ refused 23 11
-  -- the same rank twice, and END that counts itself
+  -- the same rank twice, a rank that falls, and END that counts itself
   pub same-rank : locate (asked 1 1) (0x90000006 ∷ 0x90000006 ∷ 0x50000002 ∷ []) 2 ≡ refused 23 1
+  pub falling-rank : locate (asked 1 1) (0x90000006 ∷ 0x90000005 ∷ []) 2 ≡ refused 23 1
   pub counts-itself : locate (asked 1 1) (0x90000006 ∷ 0x50000002 ∷ []) 2 ≡ refused 23 1
   -- a forbidden box and an unsafe one that both hold the state; task 0 twice
   pub both-kinds : locate (asked 1 1) (0x60000000 ∷ 0x80000101 ∷ 0x80010101 ∷ 0x70000000 ∷ 0x80000101 ∷ 0x80010101 ∷ 0x50000006 ∷ []) 2

@@ -85,6 +85,6 @@ locationOf none none = in-neither
 -- 22: a task count outside 1 to 8; 23 over the whole plan; else where the state lies, of which the positions past the task count are unread
 unfoldable pub locate : State → List ℕ → ℕ → Answer Location
 locate x ws n =
-    cond (leb 1 n && leb n 8)
-    (scanFrom n (nothingScanned n) 0 ws then λ _. given (locationOf (firstOf n FORBIDDEN-BOX (take n x) 0 ws) (firstOf n UNSAFE-BOX (take n x) 0 ws)))
-    (refused 22 0)
+    let y = take n x in
+    cond (not (leb 1 n && leb n 8)) (refused 22 0)
+    (scanFrom n (nothingScanned n) 0 ws then λ _. given (locationOf (firstOf n FORBIDDEN-BOX y 0 ws) (firstOf n UNSAFE-BOX y 0 ws)))

@@ -1,4 +1,5 @@
-// What a walk has seen of a plan's words so far.
+// What a walk has seen of a plan's words so far. Whoever takes a word makes a `Seen` anew, each field of it: a copy with some fields changed goes through memory, and
+// a question then takes three times as long.
 ghost use mathlib.Core.Path.{_≡_};
 ghost use Rattle.plan_reader.specs.Walk.{before, outsideAt, boxFound, located};
 use crate::Located;

@@ -12,7 +12,7 @@ use crate::seen::Seen;
 // Devices are numbered below this.
 const DEVICES: u32 = model::MAX_DEVICES as u32;
 
-// Whether the sides up to this one hold the state, if those before it do.
+// Whether the sides up to this one hold the state, by whether those before it do.
 fn still_holds(holds: bool, word: u32, position: u8) -> bool
     ensures { λ r. ⌜ r ≡ (holds && within (sideOf word) position) ⌝ }
 {
