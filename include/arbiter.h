@@ -122,7 +122,7 @@
                                    * damaged, or isn't one for so many tasks */
 
 /* What a call answers. refusal is 0 exactly where kind is not ARBITER_REFUSED. value is what the kind says, and 0 where it says nothing. */
-typedef struct {
+typedef struct arbiter_answer {
     uint32_t kind;
     uint32_t refusal;
     uint64_t value;
@@ -130,7 +130,7 @@ typedef struct {
 
 /* The broker's record: for each task how many of its actions are done, 0 for tasks that the set doesn't have; and the number of
  * grants so far, which goes from 4,294,967,295 to 0. Start from arbiter_fresh, and let nobody but the calls write it. */
-typedef struct {
+typedef struct arbiter_record {
     uint8_t positions[ARBITER_MAX_TASKS];
     uint32_t grants;
 } arbiter_record;
@@ -362,7 +362,7 @@ static inline arbiter_state arbiter_state_of(const arbiter_record *record) {
 }
 
 /* A box of a plan: the states in which every task's position is between its low and its high, both included. */
-typedef struct {
+typedef struct arbiter_box {
     uint32_t kind;   /* ARBITER_FORBIDDEN_BOX or ARBITER_UNSAFE_BOX */
     uint32_t device; /* a forbidden box's device; 0 for an unsafe one */
     size_t tasks;    /* how many sides it has: one for each task of the set, fewer only if the plan is damaged */

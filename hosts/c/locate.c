@@ -1,6 +1,6 @@
 /* locate PLANFILE TASKS P0 P1 ..: questions a stored plan, without its set: does a box hold the state in which task 0 has done P0 actions, task 1
- * P1, and so on? Give a position for each of the TASKS tasks, no more and no fewer. The same program in Rust is rust/examples/locate.rs; both
- * print the same.
+ * P1, and so on? Give a position for each of the TASKS tasks, no more and no fewer, and - for a plan on standard input. The same program in Rust is
+ * rust/examples/locate.rs; both print the same.
  *
  * The plan is text as the printer prints it, a word a line in eight hexadecimal digits, letters as capitals (a carriage return at a line's end,
  * and a last line that isn't ended, are let pass); or stored words, four bytes each, lowest first. A file in which every byte is a printable ASCII
@@ -18,7 +18,9 @@
 #include <stdlib.h>
 #include <string.h>
 
+#define USAGE "usage: locate PLANFILE TASKS P0 P1 .., with - for a plan on standard input"
 #define DIGITS 8                             /* of a word in text */
+#define WORD_BYTES sizeof(uint32_t)          /* of a stored word */
 #define MAX_BYTES ((size_t)64 * 1024 * 1024) /* far more than any plan of an analysis has, and an end for files that have none */
 
 static void stop(const char *why) {
@@ -71,7 +73,7 @@ static arbiter_state state_of(size_t tasks, int positions, char **position) {
 
 /* --- The plan --- */
 
-/* A plan's words, and whether they stood in text: then the word with index i is line i + 1. */
+/* A plan's words, and whether they stood in text: then the word with index i is line i + 1, else it starts at byte 4 * i. */
 typedef struct {
     uint32_t *words;
     size_t len;
@@ -89,11 +91,11 @@ static void stop_reading(void) {
     exit(2);
 }
 
-/* The bytes of a file, and a 0 behind them; their number is stored in *len. */
+/* The bytes of a file, or of standard input, and a 0 behind them; their number is stored in *len. */
 static char *bytes_in(const char *path, size_t *len) {
     size_t size = 4096;
     char *bytes = NULL;
-    FILE *file = fopen(path, "rb");
+    FILE *file = strcmp(path, "-") == 0 ? stdin : fopen(path, "rb");
     if (file == NULL) stop_reading();
     for (*len = 0;; size *= 2) {
         bytes = room(bytes, size);
@@ -172,12 +174,12 @@ static void from_text(stored *plan, const char *text) {
 
 /* Four bytes a word, lowest first. */
 static void from_bytes(stored *plan, const uint8_t *bytes, size_t len) {
-    if (len % 4 != 0) {
+    if (len % WORD_BYTES != 0) {
         fprintf(stderr, "locate: the plan file is neither text nor stored words, four bytes each: it has %zu bytes\n", len);
         exit(2);
     }
-    for (plan->len = 0; plan->len < len / 4; plan->len++) {
-        const uint8_t *word = bytes + 4 * plan->len;
+    for (plan->len = 0; plan->len < len / WORD_BYTES; plan->len++) {
+        const uint8_t *word = bytes + WORD_BYTES * plan->len;
         plan->words[plan->len] = (uint32_t)word[0] | (uint32_t)word[1] << 8 | (uint32_t)word[2] << 16 | (uint32_t)word[3] << 24;
     }
 }
@@ -186,7 +188,7 @@ static stored plan_in(const char *path) {
     size_t len;
     char *bytes = bytes_in(path, &len);
     /* A word has at least four bytes in either form. One more than they can be, so that there is always room to lend. */
-    stored plan = {room(NULL, (len / 4 + 1) * sizeof *plan.words), 0, is_text(bytes, len)};
+    stored plan = {room(NULL, (len / WORD_BYTES + 1) * sizeof *plan.words), 0, is_text(bytes, len)};
     if (plan.in_text) {
         end_at_refusal(bytes);
         from_text(&plan, bytes);
@@ -201,8 +203,8 @@ static stored plan_in(const char *path) {
 
 /* Where a word stands, for people. */
 static void tell_place(stored plan, size_t index) {
-    printf("word %zu", index);
-    if (plan.in_text) printf(" (line %zu)", index + 1);
+    if (plan.in_text) printf("word %zu (line %zu)", index, index + 1);
+    else printf("word %zu (byte %zu)", index, WORD_BYTES * index);
 }
 
 static void tell_box(stored plan, size_t index, size_t tasks, arbiter_state state) {
@@ -227,15 +229,19 @@ static void tell_refusal(stored plan, uint32_t refusal, size_t place) {
         tell_place(plan, place);
         printf(" is %08lX\n", (unsigned long)plan.words[place]);
     } else {
-        printf("it ends after %zu words, without END\n", plan.len);
+        printf("it ends after %zu word%s, without END\n", plan.len, plan.len == 1 ? "" : "s");
     }
 }
 
 int main(int arguments, char **argument) {
     size_t tasks;
-    if (arguments < 3) stop("usage: locate PLANFILE TASKS P0 P1 ..");
+    if (arguments == 2 && strcmp(argument[1], "--help") == 0) {
+        printf("%s\n", USAGE);
+        end(0);
+    }
+    if (arguments < 3) stop(USAGE);
     if (arbiter_version() != ARBITER_VERSION) stop("libarbiter.a isn't of the version of arbiter.h");
-    if (!is_number(argument[2], &tasks)) stop("TASKS isn't a number");
+    if (!is_number(argument[2], &tasks)) stop("TASKS isn't a number: how many tasks the plan is for, 1 to 8");
 
     /* Any other task count is for the library to refuse, whatever the positions. */
     arbiter_state state = {{0}};

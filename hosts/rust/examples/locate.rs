@@ -1,18 +1,24 @@
 //! locate PLANFILE TASKS P0 P1 ..: questions a stored plan, without its set: does a box hold the state in which task 0 has done P0 actions, task 1 P1, and so on?
-//! Give a position for each of the TASKS tasks, no more and no fewer. The same program in C is `c/locate.c`, which says how a plan may be stored and how the two
-//! forms are told apart; both print the same.
+//! Give a position for each of the TASKS tasks, no more and no fewer, and - for a plan on standard input. The same program in C is `c/locate.c`, which says how a
+//! plan may be stored and how the two forms are told apart; both print the same.
 //!
 //! Exit status: 0; 1 for a refusal, which is printed: that of the question, or one by the printer that the file has in the place of a plan; 2 with a line on
-//! standard error if the arguments or the file's lines are wrong, the file can't be read, or standard output not written.
+//! standard error if the arguments or the file's lines are wrong, the file can't be read, or standard output not written. (A standard output that was closed
+//! before the start isn't noticed here: Rust opens it anew, on nothing.)
 
 use arbiter::{sys, BoxKind, Location, Plan, Positions, Refusal, Refused};
 use std::ffi::{OsStr, OsString};
 use std::fs::File;
-use std::io::{stdout, Read, Write};
+use std::io::{stdin, stdout, Read, Write};
 use std::process::ExitCode;
+
+const USAGE: &str = "usage: locate PLANFILE TASKS P0 P1 .., with - for a plan on standard input";
 
 /// Digits of a word in text.
 const DIGITS: usize = 8;
+
+/// Bytes of a stored word.
+const WORD_BYTES: usize = 4;
 
 /// Far more than any plan of an analysis has, and an end for files that have none.
 const MAX_BYTES: u64 = 64 * 1024 * 1024;
@@ -54,7 +60,7 @@ fn positions(tasks: usize, arguments: &[OsString]) -> Result<Positions, Stopped>
 
 /// What a plan file has.
 enum Stored {
-    /// A plan's words, and whether they stood in text: then the word with index i is line i + 1.
+    /// A plan's words, and whether they stood in text: then the word with index i is line i + 1, else it starts at byte 4 * i.
     Words { words: Vec<u32>, in_text: bool },
     /// What the printer prints for a set that it refuses: the number and the place.
     Refusal(u32, u32),
@@ -68,7 +74,12 @@ fn reason(error: std::io::Error) -> Stopped {
 
 fn bytes_in(path: &OsStr) -> Result<Vec<u8>, Stopped> {
     let mut bytes = Vec::new();
-    File::open(path).and_then(|file| file.take(MAX_BYTES + 1).read_to_end(&mut bytes)).map_err(reason)?;
+    let read = if path == "-" {
+        stdin().take(MAX_BYTES + 1).read_to_end(&mut bytes)
+    } else {
+        File::open(path).and_then(|file| file.take(MAX_BYTES + 1).read_to_end(&mut bytes))
+    };
+    read.map_err(reason)?;
     if bytes.len() as u64 > MAX_BYTES {
         return Err("the plan file is longer than any plan: over 64 MiB".to_string());
     }
@@ -102,10 +113,10 @@ fn words_of_text(text: &str) -> Result<Vec<u32>, Stopped> {
 }
 
 fn words_of_bytes(bytes: &[u8]) -> Result<Vec<u32>, Stopped> {
-    if bytes.len() % 4 != 0 {
+    if bytes.len() % WORD_BYTES != 0 {
         return Err(format!("the plan file is neither text nor stored words, four bytes each: it has {} bytes", bytes.len()));
     }
-    Ok(bytes.chunks_exact(4).map(|word| u32::from_le_bytes([word[0], word[1], word[2], word[3]])).collect())
+    Ok(bytes.chunks_exact(WORD_BYTES).map(|word| u32::from_le_bytes([word[0], word[1], word[2], word[3]])).collect())
 }
 
 fn stored_in(path: &OsStr) -> Result<Stored, Stopped> {
@@ -129,7 +140,7 @@ fn place_of(index: usize, in_text: bool) -> String {
     if in_text {
         format!("word {index} (line {})", index + 1)
     } else {
-        format!("word {index}")
+        format!("word {index} (byte {})", WORD_BYTES * index)
     }
 }
 
@@ -156,7 +167,10 @@ fn told_box(plan: Plan, index: usize, positions: Positions, in_text: bool) -> St
 fn told_refusal(refused: Refused, words: &[u32], in_text: bool) -> String {
     let word = match (refused.refusal, words.get(refused.place)) {
         (Refusal::OutsideLayout, Some(word)) => format!("{} is {word:08X}\n", place_of(refused.place, in_text)),
-        (Refusal::OutsideLayout, None) => format!("it ends after {} words, without END\n", words.len()),
+        (Refusal::OutsideLayout, None) => {
+            let words = words.len();
+            format!("it ends after {words} word{}, without END\n", if words == 1 { "" } else { "s" })
+        }
         _ => String::new(),
     };
     format!("{refused}\n{word}")
@@ -171,10 +185,13 @@ fn told_refusal_of_set(number: u32, place: u32) -> String {
 
 /// What is printed, and the status.
 fn answered(arguments: &[OsString]) -> Result<(String, u8), Stopped> {
+    if arguments == ["--help"] {
+        return Ok((format!("{USAGE}\n"), 0));
+    }
     let [path, tasks, rest @ ..] = arguments else {
-        return Err("usage: locate PLANFILE TASKS P0 P1 ..".to_string());
+        return Err(USAGE.to_string());
     };
-    let tasks = number(tasks).ok_or("TASKS isn't a number")?;
+    let tasks = number(tasks).ok_or("TASKS isn't a number: how many tasks the plan is for, 1 to 8")?;
     // Any other task count is for the library to refuse, whatever the positions.
     let positions = if (1..=sys::MAX_TASKS).contains(&tasks) { positions(tasks, rest)? } else { [0; sys::MAX_TASKS] };
     let (words, in_text) = match stored_in(path)? {
