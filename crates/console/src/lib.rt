@@ -6,6 +6,7 @@ use broker::AgainAnswer;
 use broker::BidAnswer;
 use libc::STDOUT_FILENO;
 use plan_reader::Located;
+pub use states::UNREAD;
 pub use states::positions_up_to;
 pub use states::state_at;
 

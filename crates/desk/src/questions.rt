@@ -1,6 +1,7 @@
 // Questions to the stored plans of examples a, d, e, f and g, at every state.
 use crate::lines::UNTOUCHED;
 use crate::sets;
+use console::UNREAD;
 use plan_reader::Located;
 
 // The words of the plans, END among them.
@@ -18,9 +19,6 @@ const ONE_MORE: usize = PLAN_OF_A + 1;
 const NINE: usize = model::MAX_TASKS + 1;
 
 const BEYOND: usize = 0x1_0000_0002;
-
-// A position of a task that the plan doesn't have.
-const UNREAD: u8 = 255;
 
 // The last positions of the examples' tasks; f and g have one task, without actions.
 const LAST_OF_A: [u8; model::MAX_TASKS] = [4, 4, 0, 0, 0, 0, 0, 0];
