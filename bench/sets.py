@@ -75,6 +75,12 @@ def apart(n):
     return [1, 1], [pairs(n, [claim(0), release(0)]), pairs(n, [claim(1), release(1)])]
 
 
+def devices_in_turn(n):
+    """Two tasks that claim and release each of n devices in turn: a forbidden box a device."""
+    one = [a for d in range(n) for a in (claim(d), release(d))]
+    return [1] * n, [one, one]
+
+
 def nested(orders, n):
     """Each task claims the same devices in an order of its own, claims and releases one device more n times while it holds them all, and releases them: every two
     tasks exclude each other over most of the grid, once for each device."""
@@ -132,6 +138,12 @@ save("longest_accepted", [1] * 16, [[]] * 3 + [[a for i in range(127) for a in (
 # As many words as a list can have before its grid is looked at: 16 devices and eight tasks of 254 actions, 2,057 words, refused with 12. It is read and no more,
 # which is nearly all that a bid costs.
 save("longest", [1] * 16, [pairs(127, [claim(d), release(d)]) for d in range(8)])
+
+# Eight tasks and few states, so that what the analysis does for each device and each set of tasks weighs most: 16 devices that two tasks claim one after the other, and one
+# device of three units that all eight claim, 70 forbidden boxes.
+capacities, tasks = devices_in_turn(16)
+save("devices16_idle", capacities, [[]] * 3 + tasks + [[]] * 3)
+save("pool8", [3], [[claim(0), release(0)]] * 8)
 
 # Three to five tasks whose forbidden boxes overlap: by a seed, and the worst case, where each of 45 boxes holds a quarter of the grid.
 for tasks, length, devices, seeds in [(3, 38, 2, [1, 4]), (3, 38, 4, [2, 6]), (3, 38, 8, [2, 6]), (3, 38, 16, [1]), (4, 14, 4, [1]), (5, 8, 2, [3])]:

@@ -31,7 +31,7 @@ REFUSALS = """
 
 # The kinds of an answer, and the version: major times 10,000, minor times 100, patch.
 ANSWER_KINDS = "REFUSED ACCEPTED PLANNED ROUTED GRANTED FINISHED BUSY HELD RESTARTED IN_FORBIDDEN_BOX IN_UNSAFE_BOX IN_NO_BOX".split()
-VERSION = {"VERSION": 10100}
+VERSION = {"VERSION": 10101}
 
 # What hosts use and the proved source doesn't know: in the header, and in the package's plain.rs.
 OF_HOSTS = {"NOT_ANALYSED": 0xFF}

@@ -8,7 +8,7 @@ import sys
 from ctypes import POINTER, c_char_p, c_size_t, c_uint8, c_uint32, c_uint64
 
 # The numbers of include/arbiter.h that are used here.
-VERSION = 10100
+VERSION = 10101
 MAX_WORDS = 4096
 NOT_ANALYSED = 0xFF
 DEVICE, TASK, FORBIDDEN_BOX, UNSAFE_BOX, DEAD_STATE = 1, 2, 6, 7, 9

@@ -1,7 +1,7 @@
 // The numbers of docs/SCOPE.md, by name. What they mean stands in specs/, and the theorems on it in proofs/.
 
 // The version of all that is built from here: major times 10,000, minor times 100, patch. CHANGELOG.md says what moves which.
-pub const VERSION: u32 = 10100;
+pub const VERSION: u32 = 10101;
 
 // The limits of a set.
 pub const MAX_WORDS: usize = 4096;

@@ -1,41 +1,67 @@
-// The non-empty sets of eight tasks, one after the other, and the test of a set's size.
+// The non-empty sets of eight tasks, each worked out from the one before, and the test of a set's size. A set is a mask with bit i for task i.
 ghost use mathlib.Core.Path.{_≡_};
-ghost use Prim.Native.Nat.{_+_};
+ghost use Prim.Native.Nat.{ℕ, _+_, _-_, _^_, _<_};
 ghost use lib.Count.{ones};
 ghost use lib.Dec.{eqb};
 ghost use Rattle.model.specs.TaskTable.{table};
+ghost use Rattle.task_sets.specs.Next.{follow, next};
 
 // How many task sets there are.
 pub const TASK_SET_COUNT: usize = 255;
 
-// A mask for each set, with bit i for task i: smaller sets first, equal sizes by their ascending task lists. Each size begins a line.
-const TASK_SETS: [u8; TASK_SET_COUNT] = *b"\
-    \x01\x02\x04\x08\x10\x20\x40\x80\
-    \x03\x05\x09\x11\x21\x41\x81\x06\x0A\x12\x22\x42\x82\x0C\x14\x24\
-    \x44\x84\x18\x28\x48\x88\x30\x50\x90\x60\xA0\xC0\
-    \x07\x0B\x13\x23\x43\x83\x0D\x15\x25\x45\x85\x19\x29\x49\x89\x31\
-    \x51\x91\x61\xA1\xC1\x0E\x16\x26\x46\x86\x1A\x2A\x4A\x8A\x32\x52\
-    \x92\x62\xA2\xC2\x1C\x2C\x4C\x8C\x34\x54\x94\x64\xA4\xC4\x38\x58\
-    \x98\x68\xA8\xC8\x70\xB0\xD0\xE0\
-    \x0F\x17\x27\x47\x87\x1B\x2B\x4B\x8B\x33\x53\x93\x63\xA3\xC3\x1D\
-    \x2D\x4D\x8D\x35\x55\x95\x65\xA5\xC5\x39\x59\x99\x69\xA9\xC9\x71\
-    \xB1\xD1\xE1\x1E\x2E\x4E\x8E\x36\x56\x96\x66\xA6\xC6\x3A\x5A\x9A\
-    \x6A\xAA\xCA\x72\xB2\xD2\xE2\x3C\x5C\x9C\x6C\xAC\xCC\x74\xB4\xD4\
-    \xE4\x78\xB8\xD8\xE8\xF0\
-    \x1F\x2F\x4F\x8F\x37\x57\x97\x67\xA7\xC7\x3B\x5B\x9B\x6B\xAB\xCB\
-    \x73\xB3\xD3\xE3\x3D\x5D\x9D\x6D\xAD\xCD\x75\xB5\xD5\xE5\x79\xB9\
-    \xD9\xE9\xF1\x3E\x5E\x9E\x6E\xAE\xCE\x76\xB6\xD6\xE6\x7A\xBA\xDA\
-    \xEA\xF2\x7C\xBC\xDC\xEC\xF4\xF8\
-    \x3F\x5F\x9F\x6F\xAF\xCF\x77\xB7\xD7\xE7\x7B\xBB\xDB\xEB\xF3\x7D\
-    \xBD\xDD\xED\xF5\xF9\x7E\xBE\xDE\xEE\xF6\xFA\xFC\
-    \x7F\xBF\xDF\xEF\xF7\xFB\xFD\xFE\
-    \xFF";
+const FIRST_TASK: u8 = 1;
 
-// The table: callers see its order by this promise alone. They take it once, since the constant is made anew wherever it is indexed.
+const LAST_TASK: u8 = 128;
+
+const ALL_TASKS: u8 = 255;
+
+// What follows the last set.
+const NO_SET: u8 = 0;
+
+// The next set where `gap` is the last absent task and `before` has the tasks before it. The last of these goes on by one, and the tasks behind the gap follow it:
+// a row as long as from the gap to the end. It comes down from there until it stands one past the place of that last task, or at task 0 where there is none.
+fn follow(before: u8, gap: u8) -> u8
+    requires { ⌜ before < gap ⌝ }
+    ensures { λ r. ⌜ ((n : ℕ) → gap ≡ 2 ^ n → r ≡ follow n before (2 ^ 8 - gap)) ⌝ }
+{
+    let mut row = ALL_TASKS - (gap - 1);
+    let mut task = gap / 2;
+    while before < task {
+        task /= 2;
+        row /= 2;
+    }
+    before - task + row
+}
+
+// The next set, from the mask of a set alone: the tasks at the end, up to the last absent one, are taken off.
+fn next_set(mask: u8) -> u8
+    ensures { λ r. ⌜ r ≡ next mask ⌝ }
+{
+    if mask == ALL_TASKS {
+        return NO_SET;
+    }
+    let mut before = mask;
+    let mut gap = LAST_TASK;
+    while gap <= before {
+        before -= gap;
+        gap /= 2;
+    }
+    follow(before, gap)
+}
+
+// All sets: callers see their order by this promise alone. They take them once, since to work a set out costs more than to look at it.
 pub fn all_sets() -> [u8; TASK_SET_COUNT]
     ensures { λ r. ⌜ r ≡ table ⌝ }
 {
-    TASK_SETS
+    let mut sets = [0u8; TASK_SET_COUNT];
+    let mut mask = FIRST_TASK;
+    let mut i = 0;
+    while i < TASK_SET_COUNT {
+        sets[i] = mask;
+        mask = next_set(mask);
+        i += 1;
+    }
+    sets
 }
 
 // Whether a set has one task more than the capacity.

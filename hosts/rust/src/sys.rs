@@ -53,7 +53,7 @@ extern "C" {
 }
 
 // The version that this interface is of, and the library must be: major times 10,000, minor times 100, patch.
-pub const VERSION: u32 = 10100;
+pub const VERSION: u32 = 10101;
 
 // The kinds of an answer. A zeroed answer is a refusal.
 pub const REFUSED: u32 = 0; // value: the refusal's place
