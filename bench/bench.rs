@@ -7,7 +7,8 @@
 //     bench stack FILE..      for each call: its name, and the most bytes of stack that it took on any of the sets
 //
 // The two take turns, and the best of many turns counts: what else the machine does meanwhile only ever adds to a time. A turn is a batch of calls, as many as
-// take long enough for the clock. All sets are gone through several times, so that a minute in which the machine is slow spoils no best time.
+// take long enough for the clock. Where code lies in memory moves a time by up to a tenth, so bench/run builds the benchmark several times, with SHIFT from 0 on,
+// and bench/best.py takes the best of all: each build has 16 bytes more in front of the library's code. So a minute in which the machine is slow spoils no best time.
 #[allow(dead_code)]
 #[path = "baseline.rs"]
 mod baseline;
@@ -15,7 +16,7 @@ mod baseline;
 #[path = "../hosts/rust/src/sys.rs"]
 mod sys;
 
-use std::arch::asm;
+use std::arch::{asm, global_asm};
 use std::hint::black_box;
 use std::time::Instant;
 use sys::Answer;
@@ -24,8 +25,14 @@ const UNWRITTEN: u8 = 0xFF; // fills a map slice before the analysis, as hosts d
 const MAP: usize = 65536; // bytes: fits every set
 const PLAN: usize = 400_000; // more words than any plan has
 const SHORT_PLAN: usize = 64;
-const PASSES: usize = 3; // how often the sets are gone through
-const TURNS: u128 = 250; // milliseconds that the two take turns for, each time
+const TURNS: u128 = 250; // milliseconds that the two take turns for
+
+// A piece of code that is never run, 16 bytes longer for each step of SHIFT, a digit.
+const SHIFT: usize = 16 * (env!("SHIFT").as_bytes()[0] - b'0') as usize + 1;
+global_asm!(".section .text.shift,\"ax\",@progbits", "shift:", ".fill {shift}, 1, 0x90", ".text", shift = const SHIFT);
+extern "C" {
+    fn shift();
+}
 
 // --- The yardstick's answers in the library's form, to compare them ---
 
@@ -107,10 +114,6 @@ fn locate(state: sys::State, plan: &[u32], tasks: usize) -> Answer {
 
 /// Nanoseconds of one call of each.
 type Times = (f64, f64);
-
-fn better(one: Times, other: Times) -> Times {
-    (one.0.min(other.0), one.1.min(other.1))
-}
 
 /// Both in turn, best of many.
 fn best_of(mut proved: impl FnMut(), mut yardstick: impl FnMut()) -> Times {
@@ -370,45 +373,20 @@ fn questions_on(file: &str) -> Vec<Line> {
     lines
 }
 
-/// The lines that each file has, with the best times of several passes over all.
-fn best_lines(files: &[String], lines: impl Fn(&str) -> Vec<Line>) {
-    let pass = || files.iter().flat_map(|file| lines(file)).collect::<Vec<Line>>();
-    let mut best = pass();
-    for _ in 1..PASSES {
-        for (line, other) in best.iter_mut().zip(pass()) {
-            line.times = better(line.times, other.times);
-        }
-    }
-    for Line { text, times: (proved, yardstick) } in best {
+/// The lines that each file has.
+fn print_lines(files: &[String], lines: impl Fn(&str) -> Vec<Line>) {
+    for Line { text, times: (proved, yardstick) } in files.iter().flat_map(|file| lines(file)) {
         println!("{text}\t{proved:.2}\t{yardstick:.2}");
     }
 }
 
-fn calls(files: &[String]) {
-    best_lines(files, lines_of);
-}
-
-fn questions(files: &[String]) {
-    best_lines(files, questions_on);
-}
-
-fn growth(files: &[String]) {
-    let mut best = vec![(f64::MAX, f64::MAX); files.len()];
-    let mut plan_words = vec![0; files.len()];
-    for _ in 0..PASSES {
-        for (at, file) in files.iter().enumerate() {
-            let (answer, agree, times) = analyses(&words_in(file), PLAN);
-            assert!(agree, "{file}: the two differ");
-            best[at] = better(best[at], times);
-            plan_words[at] = answer.value;
-        }
-    }
-    for (at, file) in files.iter().enumerate() {
-        let (family, size) = name_of(file).rsplit_once('-').unwrap();
-        let states = baseline::read(&words_in(file)).unwrap().grid;
-        let (proved, yardstick) = best[at];
-        println!("{family}\t{}\t{states}\t{}\t{proved:.1}\t{yardstick:.1}", size.trim_start_matches('0'), plan_words[at]);
-    }
+fn growth_of(file: &str) -> Vec<Line> {
+    let words = words_in(file);
+    let (answer, agree, times) = analyses(&words, PLAN);
+    assert!(agree, "{file}: the two differ");
+    let (family, size) = name_of(file).rsplit_once('-').unwrap();
+    let states = baseline::read(&words).unwrap().grid;
+    vec![Line { text: format!("{family}\t{}\t{states}\t{}", size.trim_start_matches('0'), answer.value), times }]
 }
 
 // --- Stack ---
@@ -469,13 +447,14 @@ fn stack(files: &[String]) {
 fn main() {
     // Another version's structs could be laid out otherwise.
     assert_eq!(unsafe { sys::arbiter_version() }, sys::VERSION, "the library's version");
+    black_box(shift as *const ());
     let run = || {
         let arguments: Vec<String> = std::env::args().skip(1).collect();
         match arguments[0].as_str() {
-            "growth" => growth(&arguments[1..]),
-            "questions" => questions(&arguments[1..]),
+            "growth" => print_lines(&arguments[1..], growth_of),
+            "questions" => print_lines(&arguments[1..], questions_on),
             "stack" => stack(&arguments[1..]),
-            _ => calls(&arguments[1..]),
+            _ => print_lines(&arguments[1..], lines_of),
         }
     };
     std::thread::Builder::new().stack_size(STACK).spawn(run).unwrap().join().unwrap();

@@ -1,18 +1,19 @@
 """What an image holds: python3 tests/test_image.py FILE.., archives or programs.
 
-The boards that boot the arbiter are short of read-only memory, so the table of task sets is worked out and not stored: no piece of it may stand in a file,
-neither as data nor inside instructions. A compiler that folds the walk back into constants would cut them into pieces of 16 bytes or less and mix these with
-others, so each run of a few sets is looked for, stored as bytes or as wider numbers. For each file the sizes of its code and its read-only data are printed.
+The boards that boot the arbiter are short of read-only memory, so the table of task sets is worked out and not stored: it may not stand in a file, whole or in pieces, neither as data nor
+in instructions. A compiler that folds the walk back into constants would cut them into pieces of 4, 8 or 16 bytes and mix these with others, so runs of a few sets are looked for,
+stored as bytes or as wider numbers, and counted. For each file the sizes of its code and its read-only data are printed.
 """
 
 import itertools
+import random
 import struct
 import sys
 from pathlib import Path
 
 TASKS = 8
-RUN = {"B": 8, "H": 4, "I": 4}  # how many sets in a row are a piece of the table, where each is stored in 1, 2 or 4 bytes
-PIECE = 16  # bytes that a compiler moves at once
+RUN = {"B": 4, "H": 2, "I": 2, "Q": 2}  # how many sets in a row are looked for, where each is stored in 1, 2, 4 or 8 bytes
+CHANCE = 16  # fewer different runs than this stand there by chance: two small numbers in a row are common in larger files
 
 
 def table():
@@ -24,14 +25,16 @@ def stored(sets, width):
     return struct.pack(f"<{len(sets)}{width}", *sets)
 
 
-def pieces_in(data):
-    """The runs of the table that stand in the data, with the width of their numbers."""
-    sets = table()
+def runs_in(data):
+    """The runs of the table that stand in the data, those of the width that most do. Sets of one task are passed over: they are the powers of two, which loops over bits are made with."""
+    sets = table()[TASKS:]
+    found = {width: [] for width in RUN}
     for width, length in RUN.items():
         for first in range(len(sets) - length + 1):
-            run = sets[first : first + length]
-            if stored(run, width) in data:
-                yield width, run
+            run = stored(sets[first : first + length], width)
+            if run in data:
+                found[width].append(run)
+    return max(found.values(), key=len)
 
 
 def objects(data):
@@ -62,26 +65,37 @@ def size_of(data, prefix):
 
 
 def test_the_test(data):
-    """The table, cut into pieces that are put somewhere else each, is found in every one of them."""
+    """Half of the table, cut into pieces that a compiler could move at once, mixed with others, is noticed."""
+    rng = random.Random(1)
     for width, length in RUN.items():
-        whole = stored(table(), width)
-        for at in range(0, len(whole), PIECE):
-            piece = whole[at : at + PIECE]
-            if len(piece) >= len(stored(table()[:length], width)) and not list(pieces_in(data + piece)):
-                sys.exit(f"a piece of the table would not be noticed: {piece.hex(' ')}")
+        half = table()[TASKS : len(table()) // 2]
+        for piece in (4, 8, 16):
+            if piece >= length * struct.calcsize(width):
+                whole = stored(half, width)
+                pieces = [whole[at : at + piece] for at in range(0, len(whole), piece)] + [rng.randbytes(piece) for _ in half]
+                rng.shuffle(pieces)
+                if len(runs_in(data + b"".join(pieces))) < CHANCE:
+                    sys.exit(f"a table in pieces of {piece} bytes would not be noticed, in numbers of {8 * struct.calcsize(width)} bits")
 
 
 def main():
     if not sys.argv[1:]:
         sys.exit("usage: python3 tests/test_image.py FILE..")
     for name in sys.argv[1:]:
-        data = Path(name).read_bytes()
-        found = list(pieces_in(data))
-        if found:
-            width, run = found[0]
-            sys.exit(f"{name}: the table of task sets is back, {len(found)} runs of it, the first, in numbers of {8 * struct.calcsize(width)} bits: {bytes(run).hex(' ')}")
+        try:
+            data = Path(name).read_bytes()
+            code, constants = size_of(data, ".text"), size_of(data, ".rodata")
+        except OSError as fault:
+            sys.exit(f"{name}: {fault.strerror}")
+        except (struct.error, ValueError, IndexError):
+            sys.exit(f"{name}: no whole archive or program of 64 bits")
+        if code == 0:
+            sys.exit(f"{name}: no code in it")
+        runs = runs_in(data)
+        if len(runs) >= CHANCE:
+            sys.exit(f"{name}: the table of task sets is back, {len(runs)} runs of it, the first three: {', '.join(run.hex(' ') for run in runs[:3])}")
         test_the_test(data)
-        print(f"{name}: {size_of(data, '.text')} bytes of code and {size_of(data, '.rodata')} of read-only data, no piece of the table of task sets")
+        print(f"{name}: {code} bytes of code and {constants} of read-only data, without the table of task sets")
 
 
 if __name__ == "__main__":

@@ -6,3 +6,4 @@ pub mod Boxes
 pub mod Claims
 pub mod Declared
 pub mod Device
+pub mod Walked

@@ -9,7 +9,6 @@ ghost use Prim.Native.Nat.{_≤_, _<_};
 ghost use lib.ListN.{length};
 ghost use Rattle.model.specs.Read.{setIn};
 ghost use Rattle.model.specs.Forbidden.{forbidden};
-ghost use Rattle.model.specs.TaskTable.{table};
 ghost use Rattle.model.specs.Plan.{forbiddenWords};
 ghost use Rattle.shape.specs.Declares.{Declares};
 ghost use Rattle.plan_words.specs.Words.{Wrote};
@@ -24,7 +23,6 @@ fn device_boxes(
     words: &[u32],
     shape: Shape,
     device: usize,
-    sets: &[u8],
     rows: &mut [u32],
     plan: &mut [u32],
     at: usize,
@@ -33,7 +31,6 @@ fn device_boxes(
     requires { ⌜ device < length (setIn (now words) .capacities) ⌝ }
     requires { ⌜ length (now rows) ≡ ROWS ⌝ }
     requires { ⌜ at ≤ length (now plan) ⌝ }
-    requires { ⌜ now sets ≡ table ⌝ }
     ensures { λ r. ⌜ Wrote (now (plan .entry)) at (deviceWords (setIn (now (words .entry))) device) r (now (plan .exit)) ⌝ }
 {
     let capacity = shape.capacities[device];
@@ -46,7 +43,7 @@ fn device_boxes(
         return Placed::Next(at);
     }
     let header = plan_words::forbidden_box(device as u32);
-    sets::table_boxes(plan, at, rows, &holds, header, tasks, capacity, sets)
+    sets::table_boxes(plan, at, rows, &holds, header, tasks, capacity)
 }
 
 // The forbidden boxes of the set that the words declare. Open to the analysis alone, which has read them: hence what it requires.
@@ -55,11 +52,10 @@ pub fn forbidden_boxes(words: &[u32], shape: Shape, plan: &mut [u32]) -> Placed
     ensures { λ r. ⌜ Wrote (now (plan .entry)) 0 (forbiddenWords (forbidden (setIn (now (words .entry))))) r (now (plan .exit)) ⌝ }
 {
     let mut rows = [0u32; rows::ROWS];
-    let sets = task_sets::all_sets();
     let mut to = 0;
     let mut d = 0;
     while d < shape.devices {
-        match device_boxes(words, shape, d, &sets, &mut rows, plan, to) {
+        match device_boxes(words, shape, d, &mut rows, plan, to) {
             Placed::Next(p) => to = p,
             Placed::Full => return Placed::Full,
         }

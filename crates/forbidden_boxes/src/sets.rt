@@ -5,7 +5,6 @@ ghost use Prim.Native.Nat.{_+_, _^_, _≤_};
 ghost use lib.ListN.{length};
 ghost use lib.Count.{ones};
 ghost use lib.Dec.{ltb, eqb};
-ghost use Rattle.model.specs.TaskTable.{table};
 ghost use Rattle.plan_words.specs.Words.{Wrote};
 ghost use Rattle.forbidden_boxes.specs.Rows.{Sized, Whole};
 ghost use Rattle.forbidden_boxes.specs.Choices.{setWords, tableWords};
@@ -61,32 +60,26 @@ pub(crate) fn table_boxes(
     header: u32,
     tasks: usize,
     capacity: u8,
-    sets: &[u8],
 ) -> Placed
     requires { ⌜ at ≤ length (now plan) ⌝ }
     requires { ⌜ tasks ≤ 8 ⌝ }
     requires { ⌜ Sized (now rows) (now holds) ⌝ }
-    requires { ⌜ now sets ≡ table ⌝ }
     ensures { λ r. ⌜ Wrote (now (plan .entry)) at (tableWords (now (rows .entry)) (now (holds .entry)) header tasks capacity) r (now (plan .exit)) ⌝ }
 {
     let sides = whole_sides(rows, tasks);
     let mut to = at;
+    let mut mask = task_sets::FIRST_SET;
     let mut k = 0;
     while k < TASK_SET_COUNT {
-        match set_boxes(
-            plan,
-            to,
-            rows,
-            holds,
-            header,
-            tasks,
-            capacity,
-            sets[k],
-            sides,
-        ) {
+        // Smaller sets come first: from here on all are too large.
+        if task_sets::exceeds_by_more(mask, capacity) {
+            return Placed::Next(to);
+        }
+        match set_boxes(plan, to, rows, holds, header, tasks, capacity, mask, sides) {
             Placed::Next(p) => to = p,
             Placed::Full => return Placed::Full,
         }
+        mask = task_sets::next_set(mask);
         k += 1;
     }
     Placed::Next(to)

@@ -11,6 +11,7 @@ use Rattle.model.proofs.Slices.{length-write, write-none, write-then}
 use Rattle.plan_words.specs.Words.{Wrote, upTo}
 use Rattle.plan_words.proofs.Write.{Fits, wrote-next, wrote-full, read-next, read-full}
 use Rattle.plan_words.proofs.After.{wrote-one}
+use Rattle.plan_words.proofs.UpTo.{no-words}
 
 module _ (f : ℕ → List ℕ) (p₀ : List ℕ) (at count : ℕ) where
   -- what is to write at the i-th number
@@ -74,6 +75,19 @@ module _ (f : ℕ → List ℕ) (p₀ : List ℕ) (at count : ℕ) where
     full {x} {q} {q′} w e =
         subst (λ (k : ℕ). Wrote p₀ at (upTo k 0 f) Placed.Full q′) (sub-zero count)
         (overflows (read-full (subst (λ (y : Placed). Wrote p to (f i) y q) e w)))
+
+  -- the numbers from i on give nothing: they are passed over
+  pub passed : {p : List ℕ} {to i : ℕ} → Turn p to i → ((j : ℕ) → i ≤ j → j < count → f j ≡ []) → Turn p to count
+  passed {p} {to} {i} now none-left =
+      let e : rest i ≡ [] = no-words f (count - i) i (λ j h l. none-left j h (omega (arith, now .within))) in
+      let s : rest count ≡ [] = none count (omega arith) in
+      record {
+        within = omega arith;
+        same = now .same;
+        room = now .room;
+        sum = rw s (rw e at (now .sum));
+        words = λ g. rw s (rw e at (now .words g));
+      }
 
   pub ends : {p : List ℕ} {to i : ℕ} → Turn p to i → count ≤ i → Wrote p₀ at (rest 0) (Placed.Next to) p
   ends {p} {to} {i} now h =

@@ -13,6 +13,12 @@ unfolding upTo
 same-words f g e zero i = refl
 same-words f g e (suc k) i = ap₂ _++_ (e i) (same-words f g e k (i + 1))
 
+-- numbers that give nothing
+pub no-words : (f : ℕ → List ℕ) (k i : ℕ) → ((j : ℕ) → i ≤ j → j < i + k → f j ≡ []) → upTo k i f ≡ []
+unfolding upTo
+no-words f zero i e = refl
+no-words f (suc k) i e = ap₂ _++_ (e i (omega arith) (omega arith)) (no-words f k (i + 1) (λ j h l. e j (omega arith) (omega arith)))
+
 -- a list's words, one after the other
 abbrev pub wordAt : List ℕ → ℕ → List ℕ
 wordAt ws i = getD ws i 0 ∷ []

@@ -1,18 +1,20 @@
 -- The walk from a set to the next: how its row of tasks comes down, how its gap is found, and that its sets are the table.
 use Prim.Native.Nat.{ℕ, zero, suc, _+_, _*_, _-_, _/_, _^_, _<_, _≤_}
-use native.Mathlib.Nat.{pow-suc}
-use native.Mathlib.Numerals.{add-one}
+use native.Mathlib.Nat.{pow-suc, add-zero}
 use native.Mathlib.Omega.{arith}
 use mathlib.Core.Path.{_≡_, refl, _∙_}
-use mathlib.Core.List.{List, [], _∷_, _++_, append-assoc}
-use lib.ListN.{length, set, take}
-use lib.Seq.{take-suc-set}
-use borrow.Author.Tests.{lt-ltb, le-ltb}
+use mathlib.Core.Bool.{Bool, true, false, not, _&&_}
+use lib.Count.{ones}
+use lib.Dec.{eqb, leb}
+use borrow.Author.Tests.{lt-ltb, le-ltb, eqb-true, leb-true, not-false}
+use Rattle.model.specs.Below.{any}
+use Rattle.model.specs.Set.{at}
 use Rattle.model.specs.Forbidden.{choose}
 use Rattle.model.specs.TaskTable.{maskOf, masksFrom, table}
+use Rattle.model.proofs.Bools.{and-true, any-false}
 use Rattle.task_sets.specs.Next.{follow, after, next, run, Walk}
 
--- the task before
+-- half of task j + 1 is task j
 half : (j : ℕ) → 2 ^ suc j / 2 ≡ 2 ^ j
 half j = omega (arith, pow-suc 2 j)
 
@@ -54,12 +56,35 @@ gap-found m before gap (n, e, b, f) h =
     let l : before < 2 ^ n = omega arith in
     (n, e, rw e (rw (lt-ltb before (2 ^ n) l) at f))
 
--- a set stored behind those before it, where j are to come
-pub stored : (sets : List ℕ) (i j m : ℕ) → i < length sets → take (i + 1) (set sets i m) ++ run j (next m) ≡ take i sets ++ run (suc j) m
-unfolding run
-stored sets i j m h = rw (add-one i, take-suc-set sets i m h) (append-assoc (take i sets) (m ∷ []) (run j (next m)))
-
 -- the whole run at once, by computing it
 pub walk : Walk
 unfolding run after follow table masksFrom maskOf choose
 walk = record { whole = refl; ends = refl }
+
+-- a set of the table and the one behind it: the second is worked out from the first, and has no fewer tasks
+neighbour : ℕ → Bool
+neighbour k = eqb (at table (k + 1)) (next (at table k)) && leb (ones (at table k)) (ones (at table (k + 1)))
+
+neighbours : any 254 (λ k. not (neighbour k)) ≡ false
+unfolding any neighbour after follow table masksFrom maskOf choose ones
+neighbours = refl
+
+neighbour-at : (k : ℕ) → k < 254 → neighbour k ≡ true
+neighbour-at k h = not-false (neighbour k) (any-false 254 (λ k. not (neighbour k)) neighbours k h)
+
+pub table-next : (k : ℕ) → k < 254 → at table (k + 1) ≡ next (at table k)
+unfolding neighbour
+table-next k h =
+    eqb-true (at table (k + 1)) (next (at table k))
+    (and-true (eqb (at table (k + 1)) (next (at table k))) (leb (ones (at table k)) (ones (at table (k + 1)))) (neighbour-at k h) .0)
+
+-- no set has more tasks than one behind it
+pub sizes-rise : (j i : ℕ) → i + j < 255 → ones (at table i) ≤ ones (at table (i + j))
+unfolding neighbour
+sizes-rise zero i h = rw (add-zero i) (omega arith)
+sizes-rise (suc j) i h =
+    let k = i + j in
+    let l = leb-true (ones (at table k)) (ones (at table (k + 1)))
+    (and-true (eqb (at table (k + 1)) (next (at table k))) (leb (ones (at table k)) (ones (at table (k + 1)))) (neighbour-at k (omega arith)) .1) in
+    let e : i + suc j ≡ k + 1 = omega arith in
+    rw e (omega (arith, l, sizes-rise j i (omega arith)))

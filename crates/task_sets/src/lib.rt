@@ -2,29 +2,33 @@
 ghost use mathlib.Core.Path.{_≡_};
 ghost use Prim.Native.Nat.{ℕ, _+_, _-_, _^_, _<_};
 ghost use lib.Count.{ones};
-ghost use lib.Dec.{eqb};
-ghost use Rattle.model.specs.TaskTable.{table};
+ghost use lib.Dec.{eqb, ltb};
 ghost use Rattle.task_sets.specs.Next.{follow, next};
 
 // How many task sets there are.
 pub const TASK_SET_COUNT: usize = 255;
 
-const FIRST_TASK: u8 = 1;
+// The first set: task 0 alone.
+pub const FIRST_SET: u8 = 1;
 
+// Task 7 and all eight, as masks.
 const LAST_TASK: u8 = 128;
 
 const ALL_TASKS: u8 = 255;
 
-// What follows the last set.
+// What comes after the last set.
 const NO_SET: u8 = 0;
 
-// The next set where `gap` is the last absent task and `before` has the tasks before it. The last of these goes on by one, and the tasks behind the gap follow it:
-// a row as long as from the gap to the end. It comes down from there until it stands one past the place of that last task, or at task 0 where there is none.
+// The next set where `gap` is the last absent task and `before` has the tasks before it. The last of these goes on by one and the tasks behind the gap follow it: a row
+// as long as from the gap to task 7. It comes down from there until it begins one past the last of `before`, which it replaces, or at task 0 where there are none. A gap that
+// isn't one task is promised nothing.
 fn follow(before: u8, gap: u8) -> u8
     requires { ⌜ before < gap ⌝ }
     ensures { λ r. ⌜ ((n : ℕ) → gap ≡ 2 ^ n → r ≡ follow n before (2 ^ 8 - gap)) ⌝ }
 {
+    // All tasks but those before the gap.
     let mut row = ALL_TASKS - (gap - 1);
+    // The task right before the row, and 0 once the row begins at task 0.
     let mut task = gap / 2;
     while before < task {
         task /= 2;
@@ -33,10 +37,11 @@ fn follow(before: u8, gap: u8) -> u8
     before - task + row
 }
 
-// The next set, from the mask of a set alone: the tasks at the end, up to the last absent one, are taken off.
-fn next_set(mask: u8) -> u8
+// The next set, from the mask of a set alone: the tasks from task 7 down to the last absent one are taken off, and follow.
+pub fn next_set(mask: u8) -> u8
     ensures { λ r. ⌜ r ≡ next mask ⌝ }
 {
+    // No task is absent: no gap would be found.
     if mask == ALL_TASKS {
         return NO_SET;
     }
@@ -49,24 +54,16 @@ fn next_set(mask: u8) -> u8
     follow(before, gap)
 }
 
-// All sets: callers see their order by this promise alone. They take them once, since to work a set out costs more than to look at it.
-pub fn all_sets() -> [u8; TASK_SET_COUNT]
-    ensures { λ r. ⌜ r ≡ table ⌝ }
-{
-    let mut sets = [0u8; TASK_SET_COUNT];
-    let mut mask = FIRST_TASK;
-    let mut i = 0;
-    while i < TASK_SET_COUNT {
-        sets[i] = mask;
-        mask = next_set(mask);
-        i += 1;
-    }
-    sets
-}
-
 // Whether a set has one task more than the capacity.
 pub fn exceeds_by_one(mask: u8, capacity: u8) -> bool
     ensures { λ r. ⌜ r ≡ eqb (ones mask) (capacity + 1) ⌝ }
 {
     u32::count_ones(mask as u32) == capacity as u32 + 1
+}
+
+// Whether it has more than that.
+pub fn exceeds_by_more(mask: u8, capacity: u8) -> bool
+    ensures { λ r. ⌜ r ≡ ltb (capacity + 1) (ones mask) ⌝ }
+{
+    capacity as u32 + 1 < u32::count_ones(mask as u32)
 }

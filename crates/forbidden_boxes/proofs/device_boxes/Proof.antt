@@ -9,7 +9,7 @@ use Rattle.forbidden_boxes.proofs.device_boxes.Tie as tie
 
 -- the function's start, from where the capacity is read, the rows are made, their claimers counted and the header is known
 abbrev begun : tie.After-capacity → tie.Start
-begun c = c .before .before .before .before .before
+begun c = c .before .before .before .before
 
 abbrev begun-rows : tie.After-task-rows → tie.Start
 begun-rows c = begun (c .before .before .before)
@@ -22,7 +22,7 @@ claimers-of c = c .before .before
 
 element-copy-out-capacity : tie.Need-element-copy-out-capacity
 element-copy-out-capacity c =
-    let s = c .before .before .before .before in
+    let s = c .before .before .before in
     omega (arith, devices-are (s .pre .0), few-devices (s .pre .0), s .pre .1 .0)
 
 cast-if1 : tie.Need-cast-if1
@@ -75,7 +75,7 @@ table-boxes-requires : tie.Need-table-boxes-requires
 table-boxes-requires c κs =
     let r = rows-of (claimers-of (c .before .before .before)) in
     let p = begun-rows r .pre in
-    (omega arith, (few-tasks (p .0), (r .task-rows .ensures .sized, p .1 .1 .1 .1)))
+    (omega arith, (few-tasks (p .0), r .task-rows .ensures .sized))
 
 same-length-2 : tie.Need-same-length-2
 same-length-2 c = search needs

@@ -15,47 +15,38 @@ use Rattle.forbidden_boxes.proofs.forbidden_boxes.Statement.{statement}
 use Rattle.forbidden_boxes.proofs.forbidden_boxes.Tie as tie
 
 abbrev Inv-loop : tie.InvT-loop
-Inv-loop words shape plan₀ rows₀ sets to₀ d₀ plan rows to d =
+Inv-loop words shape plan₀ rows₀ to₀ d₀ plan rows to d =
     Turn (deviceWords (setIn words)) plan₀ 0 (shape .devices) plan to d × (length rows ≡ ROWS)
 
 abbrev μ-loop : tie.MeasureT-loop
-μ-loop words shape plan₀ rows₀ sets to₀ d₀ plan rows to d = shape .devices - d
+μ-loop words shape plan₀ rows₀ to₀ d₀ plan rows to d = shape .devices - d
 
--- where the table was taken, from a turn of the loop; the function's start, from there; and the turn in which the boxes of a device were written
-abbrev ready : tie.Then1 Inv-loop μ-loop → tie.After-all-sets Inv-loop μ-loop
-ready c = c .before .before .before
-
-abbrev begun : tie.After-all-sets Inv-loop μ-loop → tie.Start Inv-loop μ-loop
-begun c = c .before .before .before
+-- the function's start, from the loop's test; and the turn in which the boxes of a device were written
+abbrev begun : tie.Then1 Inv-loop μ-loop → tie.Start Inv-loop μ-loop
+begun c = c .before .before .before .before .before
 
 abbrev turn : tie.After-device-boxes Inv-loop μ-loop → tie.Then1 Inv-loop μ-loop
-turn c = c .before .before .before .before
+turn c = c .before .before .before
 
 -- the words of each device
 abbrev boxes : tie.Start Inv-loop μ-loop → ℕ → List ℕ
 boxes s = deviceWords (setIn (s .args .words .now))
 
-all-sets-requires : tie.Need-all-sets-requires Inv-loop μ-loop
-all-sets-requires c κs = search needs
-
 loop-holds : tie.Need-loop-holds Inv-loop μ-loop
 loop-holds c =
-    let s = begun c in
+    let s = c .before .before in
     (begins (boxes s) (s .args .plan .now) 0 (s .args .shape .devices) (omega arith), length-replicate {A = ℕ} 1024 0)
 
 slice-aggregate-device-boxes : tie.Need-slice-aggregate-device-boxes Inv-loop μ-loop
 slice-aggregate-device-boxes c = search needs
 
-slice-aggregate-device-boxes-2 : tie.Need-slice-aggregate-device-boxes-2 Inv-loop μ-loop
-slice-aggregate-device-boxes-2 c = search needs
-
 device-boxes-requires : tie.Need-device-boxes-requires Inv-loop μ-loop
 device-boxes-requires c κs =
-    let i = c .before .before .before in
-    let s = begun (ready i) in
+    let i = c .before .before in
+    let s = begun i in
     let o = i .before .before .loop in (
       s .pre,
-      (omega (arith, devices-are (s .pre), i .if1 .taken), (o .inv .1, (omega (arith, o .inv .0 .same, o .inv .0 .room), ready i .all-sets .ensures))),
+      (omega (arith, devices-are (s .pre), i .if1 .taken), (o .inv .1, omega (arith, o .inv .0 .same, o .inv .0 .room))),
     )
 
 enum-known-p : tie.Need-enum-known-p Inv-loop μ-loop
@@ -67,13 +58,13 @@ enum-told c = c .match .keys2
 same-length : tie.Need-same-length Inv-loop μ-loop
 same-length c =
     let w = c .before .before .before .before .before in
-    w .device-boxes .kept .1 .1 .1 .1 .1 .0 ∙ turn w .before .before .loop .inv .0 .same
+    w .device-boxes .kept .1 .1 .1 .1 .0 ∙ turn w .before .before .loop .inv .0 .same
 
 returns : tie.Need-returns Inv-loop μ-loop
 returns c =
     let w = c .before .before .before .before .before in
     let i = turn w in
-    let s = begun (ready i) in
+    let s = begun i in
     let o = i .before .before .loop in
     rw (← all-devices (setIn (s .args .words .now)) (s .args .shape .devices) (devices-are (s .pre)))
     (full (boxes s) (s .args .plan .now) 0 (s .args .shape .devices) (o .inv .0) (i .if1 .taken) (w .device-boxes .ensures) (c .enum-told .given .1))
@@ -89,10 +80,10 @@ loop-again c =
     let p = c .before in
     let w = p .before .before .before .before .before in
     let i = turn w in
-    let s = begun (ready i) in
+    let s = begun i in
     let o = i .before .before .loop in (
       placed (boxes s) (s .args .plan .now) 0 (s .args .shape .devices) (o .inv .0) (i .if1 .taken) (w .device-boxes .ensures) (p .p .given .1),
-      w .device-boxes .kept .1 .1 .1 .1 .0 ∙ o .inv .1,
+      w .device-boxes .kept .1 .1 .1 .0 ∙ o .inv .1,
     )
 
 same-length-2 : tie.Need-same-length-2 Inv-loop μ-loop
@@ -100,7 +91,7 @@ same-length-2 c = c .before .before .loop .inv .0 .same
 
 returns-2 : tie.Need-returns-2 Inv-loop μ-loop
 returns-2 c =
-    let s = begun (c .before .before .before) in
+    let s = c .before .before .before .before .before in
     rw (← all-devices (setIn (s .args .words .now)) (s .args .shape .devices) (devices-are (s .pre)))
     (finished (boxes s) (s .args .plan .now) 0 (s .args .shape .devices) (c .before .before .loop .inv .0) (c .if1 .left))
 
@@ -110,10 +101,8 @@ forbidden-boxes-spec =
     (tie.spec
     Inv-loop
     μ-loop
-    all-sets-requires
     loop-holds
     slice-aggregate-device-boxes
-    slice-aggregate-device-boxes-2
     device-boxes-requires
     enum-known-p
     enum-told

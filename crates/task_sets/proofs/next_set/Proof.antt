@@ -1,7 +1,8 @@
 -- `task_sets::next_set` meets its contract. The invariant: what follows the tasks yet to be looked at is what follows the set.
 use native.Mathlib.Omega.{arith}
-use mathlib.Core.Path.{refl, sym, _∙_}
-use Rattle.task_sets.proofs.Walks.{Behind, behind-more, gap-found, walk}
+use mathlib.Core.Path.{refl, _∙_}
+use Rattle.task_sets.specs.Next.{after}
+use Rattle.task_sets.proofs.Walks.{Behind, behind-more, gap-found}
 use Rattle.task_sets.proofs.next_set.Statement.{statement}
 use Rattle.task_sets.proofs.next_set.Tie as tie
 
@@ -12,7 +13,8 @@ abbrev μ-loop : tie.MeasureT-loop
 μ-loop mask before₀ gap₀ before gap = gap
 
 returns : tie.Need-returns Inv-loop μ-loop
-returns c = rw (c .if1 .taken) (sym (walk .ends))
+unfolding after
+returns c = rw (c .if1 .taken) refl
 
 loop-holds : tie.Need-loop-holds Inv-loop μ-loop
 loop-holds c = (7, refl, omega arith, refl)

@@ -1,53 +1,77 @@
--- `forbidden_boxes::sets::table_boxes` meets its contract. The invariant: the boxes of the first k sets of the table are written.
-use Prim.Native.Nat.{ℕ, _-_}
+-- `forbidden_boxes::sets::table_boxes` meets its contract. The invariant: the boxes of the first k sets of the table are written, and the mask at hand is that of the next.
+use Prim.Native.Nat.{ℕ, _+_, _-_, _<_}
 use native.Mathlib.Omega.{arith}
-use mathlib.Core.Path.{sym, ap, _∙_}
+use mathlib.Core.Path.{_≡_, refl, sym, ap, _∙_}
 use mathlib.Core.List.{List}
-use lib.ListN.{length}
-use Rattle.model.specs.Set.{at}
-use Rattle.model.proofs.TableOrder.{table-length}
-use Rattle.plan_words.proofs.Run.{Turn, begins, placed, full, finished}
+use lib.ListN.{getD}
+use lib.Count.{ones}
+use borrow.Author.Tests.{ltb-true}
+use Rattle.model.specs.Forbidden.{choose}
+use Rattle.model.specs.TaskTable.{maskOf, masksFrom, table}
+use Rattle.plan_words.proofs.Run.{Turn, begins, placed, full, passed, finished}
+use Rattle.task_sets.specs.Next.{next}
+use Rattle.task_sets.proofs.Walks.{table-next}
 use Rattle.forbidden_boxes.specs.Choices.{setWords, tableWords}
+use Rattle.forbidden_boxes.proofs.Walked.{too-large}
 use Rattle.forbidden_boxes.proofs.sets.table_boxes.Statement.{statement}
 use Rattle.forbidden_boxes.proofs.sets.table_boxes.Tie as tie
 
--- the words for the k-th of these sets
-abbrev setAt : List ℕ → List ℕ → ℕ → ℕ → ℕ → List ℕ → ℕ → List ℕ
-setAt rows holds header n s sets k = setWords rows holds header n s (at sets k)
+-- the words for the k-th set
+abbrev setAt : List ℕ → List ℕ → ℕ → ℕ → ℕ → ℕ → List ℕ
+setAt rows holds header n s k = setWords rows holds header n s (getD table k 0)
 
 abbrev Inv-loop : tie.InvT-loop
-Inv-loop plan₀ at rows holds header tasks capacity sets sides to₀ k₀ plan to k = Turn (setAt rows holds header tasks capacity sets) plan₀ at 255 plan to k
+Inv-loop plan₀ at rows holds header tasks capacity sides to₀ mask₀ k₀ plan to mask k =
+    Turn (setAt rows holds header tasks capacity) plan₀ at 255 plan to k × (k < 255 → mask ≡ getD table k 0)
 
 abbrev μ-loop : tie.MeasureT-loop
-μ-loop plan₀ at rows holds header tasks capacity sets sides to₀ k₀ plan to k = 255 - k
+μ-loop plan₀ at rows holds header tasks capacity sides to₀ mask₀ k₀ plan to mask k = 255 - k
 
--- the function's start, from where the whole sides are made; and the turn in which the boxes of a set were written
+-- the function's start, from where the whole sides are made, and from the loop's test
 abbrev begun : tie.After-whole-sides Inv-loop μ-loop → tie.Start Inv-loop μ-loop
-begun c = c .before .before .before .before .before
+begun c = c .before .before .before .before
 
 abbrev begun-turn : tie.In-loop Inv-loop μ-loop → tie.Start Inv-loop μ-loop
 begun-turn c = begun (c .before .before)
 
+-- the turn in which the boxes of a set were written
 abbrev turn : tie.After-set-boxes Inv-loop μ-loop → tie.In-loop Inv-loop μ-loop
-turn c = c .before .before .before
+turn c = c .before .before .before .before
 
 -- the words of each set
 abbrev boxes : tie.Start Inv-loop μ-loop → ℕ → List ℕ
-boxes s = let a = s .args in setAt (a .rows .now) (a .holds .now) (a .header) (a .tasks) (a .capacity) (a .sets .now)
+boxes s = let a = s .args in setAt (a .rows .now) (a .holds .now) (a .header) (a .tasks) (a .capacity)
 
 whole-sides-requires : tie.Need-whole-sides-requires Inv-loop μ-loop
-whole-sides-requires c κs = (omega arith, c .before .before .before .before .pre .1 .1 .0 .eight-rows)
+whole-sides-requires c κs = (omega arith, c .before .before .before .pre .1 .1 .eight-rows)
 
 loop-holds : tie.Need-loop-holds Inv-loop μ-loop
-loop-holds c = let s = begun c in begins (boxes s) (s .args .plan .now) (s .args .at) 255 (omega arith)
+unfolding table masksFrom maskOf choose
+loop-holds c = let s = begun c in (begins (boxes s) (s .args .plan .now) (s .args .at) 255 (omega arith), λ h. refl)
 
-shared-slice-read-set-boxes : tie.Need-shared-slice-read-set-boxes Inv-loop μ-loop
-shared-slice-read-set-boxes c = omega (arith, ap length (begun-turn (c .before .before) .pre .1 .1 .1) ∙ table-length)
+exceeds-by-more-requires : tie.Need-exceeds-by-more-requires Inv-loop μ-loop
+exceeds-by-more-requires c κs = tt
+
+same-length : tie.Need-same-length Inv-loop μ-loop
+same-length c = c .before .before .before .loop .inv .0 .same
+
+returns : tie.Need-returns Inv-loop μ-loop
+unfolding tableWords
+returns c =
+    let i = c .before .before in
+    let s = begun-turn i in
+    let o = i .before .loop in
+    let a = s .args in
+    let large : a .capacity + 1 < ones (o .mask) = ltb-true (a .capacity + 1) (ones (o .mask)) (sym (c .before .exceeds-by-more .ensures) ∙ c .if1 .taken) in
+    let here = rw (o .inv .1 (i .loop-test .taken)) at large in
+    finished (boxes s) (a .plan .now) (a .at) 255
+    (passed (boxes s) (a .plan .now) (a .at) 255 (o .inv .0) (too-large (a .rows .now) (a .holds .now) (a .header) (a .tasks) (a .capacity) (o .k) here))
+    (omega arith)
 
 set-boxes-requires : tie.Need-set-boxes-requires Inv-loop μ-loop
 set-boxes-requires c κs =
-    let i = c .before .before in
-    (omega arith, (omega arith, (begun-turn i .pre .1 .1 .0, i .before .before .whole-sides .ensures)))
+    let i = c .before .before .before in
+    (omega (arith, i .before .loop .inv .0 .room, i .before .loop .inv .0 .same), (omega arith, (begun-turn i .pre .1 .1, i .before .before .whole-sides .ensures)))
 
 enum-known-p : tie.Need-enum-known-p Inv-loop μ-loop
 enum-known-p c = c .match .keys1
@@ -55,17 +79,27 @@ enum-known-p c = c .match .keys1
 enum-told : tie.Need-enum-told Inv-loop μ-loop
 enum-told c = c .match .keys2
 
-same-length : tie.Need-same-length Inv-loop μ-loop
-same-length c = let w = c .before .before .before .before in w .set-boxes .kept .0 ∙ turn w .before .loop .inv .same
+same-length-2 : tie.Need-same-length-2 Inv-loop μ-loop
+same-length-2 c = let w = c .before .before .before .before in w .set-boxes .kept .0 ∙ turn w .before .loop .inv .0 .same
 
-returns : tie.Need-returns Inv-loop μ-loop
+-- the words of the set at hand are those of the table's
+this : (w : tie.After-set-boxes Inv-loop μ-loop) → let i = turn w in let a = begun-turn i .args in
+    setWords (a .rows .now) (a .holds .now) (a .header) (a .tasks) (a .capacity) (i .before .loop .mask) ≡ boxes (begun-turn i) (i .before .loop .k)
+this w =
+    let i = turn w in
+    let a = begun-turn i .args in
+    ap (setWords (a .rows .now) (a .holds .now) (a .header) (a .tasks) (a .capacity)) (i .before .loop .inv .1 (i .loop-test .taken))
+
+returns-2 : tie.Need-returns-2 Inv-loop μ-loop
 unfolding tableWords
-returns c =
+returns-2 c =
     let w = c .before .before .before .before in
     let i = turn w in
     let s = begun-turn i in
-    rw (sym (s .pre .1 .1 .1))
-    (full (boxes s) (s .args .plan .now) (s .args .at) 255 (i .before .loop .inv) (i .loop-test .taken) (w .set-boxes .ensures) (c .enum-told .given .1))
+    full (boxes s) (s .args .plan .now) (s .args .at) 255 (i .before .loop .inv .0) (i .loop-test .taken) (rw (this w) at (w .set-boxes .ensures)) (c .enum-told .given .1)
+
+next-set-requires : tie.Need-next-set-requires Inv-loop μ-loop
+next-set-requires c κs = tt
 
 add-k : tie.Need-add-k Inv-loop μ-loop
 add-k c = omega arith
@@ -75,19 +109,22 @@ loop-less c = omega arith
 
 loop-again : tie.Need-loop-again Inv-loop μ-loop
 loop-again c =
-    let w = c .before .before .before .before .before in
+    let w = c .before .before .before .before .before .before in
     let i = turn w in
     let s = begun-turn i in
-    placed (boxes s) (s .args .plan .now) (s .args .at) 255 (i .before .loop .inv) (i .loop-test .taken) (w .set-boxes .ensures) (c .before .p .given .1)
+    let o = i .before .loop in (
+      placed (boxes s) (s .args .plan .now) (s .args .at) 255 (o .inv .0) (i .loop-test .taken) (rw (this w) at (w .set-boxes .ensures)) (c .before .before .p .given .1),
+      λ h. c .next-set .ensures ∙ ap next (o .inv .1 (i .loop-test .taken)) ∙ sym (table-next (o .k) (omega arith)),
+    )
 
-same-length-2 : tie.Need-same-length-2 Inv-loop μ-loop
-same-length-2 c = c .before .loop .inv .same
+same-length-3 : tie.Need-same-length-3 Inv-loop μ-loop
+same-length-3 c = c .before .loop .inv .0 .same
 
-returns-2 : tie.Need-returns-2 Inv-loop μ-loop
+returns-3 : tie.Need-returns-3 Inv-loop μ-loop
 unfolding tableWords
-returns-2 c =
+returns-3 c =
     let s = begun (c .before .before) in
-    rw (sym (s .pre .1 .1 .1)) (finished (boxes s) (s .args .plan .now) (s .args .at) 255 (c .before .loop .inv) (c .loop-test .left))
+    finished (boxes s) (s .args .plan .now) (s .args .at) 255 (c .before .loop .inv .0) (c .loop-test .left)
 
 pub table-boxes-spec : {M : Type 1} → statement M
 table-boxes-spec =
@@ -97,14 +134,17 @@ table-boxes-spec =
     μ-loop
     whole-sides-requires
     loop-holds
-    shared-slice-read-set-boxes
+    exceeds-by-more-requires
+    same-length
+    returns
     set-boxes-requires
     enum-known-p
     enum-told
-    same-length
-    returns
+    same-length-2
+    returns-2
+    next-set-requires
     add-k
     loop-less
     loop-again
-    same-length-2
-    returns-2)
+    same-length-3
+    returns-3)
