@@ -63,7 +63,7 @@ returns c =
     let o = i .before .loop in
     let a = s .args in
     let large : a .capacity + 1 < ones (o .mask) = ltb-true (a .capacity + 1) (ones (o .mask)) (sym (c .before .exceeds-by-more .ensures) ∙ c .if1 .taken) in
-    let here = rw (o .inv .1 (i .loop-test .taken)) at large in
+    let here = rw (o .inv .1 (omega arith)) at large in
     finished (boxes s) (a .plan .now) (a .at) 255
     (passed (boxes s) (a .plan .now) (a .at) 255 (o .inv .0) (too-large (a .rows .now) (a .holds .now) (a .header) (a .tasks) (a .capacity) (o .k) here))
     (omega arith)
@@ -88,7 +88,7 @@ this : (w : tie.After-set-boxes Inv-loop μ-loop) → let i = turn w in let a = 
 this w =
     let i = turn w in
     let a = begun-turn i .args in
-    ap (setWords (a .rows .now) (a .holds .now) (a .header) (a .tasks) (a .capacity)) (i .before .loop .inv .1 (i .loop-test .taken))
+    ap (setWords (a .rows .now) (a .holds .now) (a .header) (a .tasks) (a .capacity)) (i .before .loop .inv .1 (omega arith))
 
 returns-2 : tie.Need-returns-2 Inv-loop μ-loop
 unfolding tableWords
@@ -96,7 +96,7 @@ returns-2 c =
     let w = c .before .before .before .before in
     let i = turn w in
     let s = begun-turn i in
-    full (boxes s) (s .args .plan .now) (s .args .at) 255 (i .before .loop .inv .0) (i .loop-test .taken) (rw (this w) at (w .set-boxes .ensures)) (c .enum-told .given .1)
+    full (boxes s) (s .args .plan .now) (s .args .at) 255 (i .before .loop .inv .0) (omega arith) (rw (this w) at (w .set-boxes .ensures)) (c .enum-told .given .1)
 
 next-set-requires : tie.Need-next-set-requires Inv-loop μ-loop
 next-set-requires c κs = tt
@@ -113,8 +113,8 @@ loop-again c =
     let i = turn w in
     let s = begun-turn i in
     let o = i .before .loop in (
-      placed (boxes s) (s .args .plan .now) (s .args .at) 255 (o .inv .0) (i .loop-test .taken) (rw (this w) at (w .set-boxes .ensures)) (c .before .before .p .given .1),
-      λ h. c .next-set .ensures ∙ ap next (o .inv .1 (i .loop-test .taken)) ∙ sym (table-next (o .k) (omega arith)),
+      placed (boxes s) (s .args .plan .now) (s .args .at) 255 (o .inv .0) (omega arith) (rw (this w) at (w .set-boxes .ensures)) (c .before .before .p .given .1),
+      λ h. c .next-set .ensures ∙ ap next (o .inv .1 (omega arith)) ∙ sym (table-next (o .k) (omega arith)),
     )
 
 same-length-3 : tie.Need-same-length-3 Inv-loop μ-loop
@@ -124,7 +124,7 @@ returns-3 : tie.Need-returns-3 Inv-loop μ-loop
 unfolding tableWords
 returns-3 c =
     let s = begun (c .before .before) in
-    finished (boxes s) (s .args .plan .now) (s .args .at) 255 (c .before .loop .inv .0) (c .loop-test .left)
+    finished (boxes s) (s .args .plan .now) (s .args .at) 255 (c .before .loop .inv .0) (omega arith)
 
 pub table-boxes-spec : {M : Type 1} → statement M
 table-boxes-spec =
