@@ -1,5 +1,5 @@
 -- The walk over the task sets, smaller sets first: behind a set that is too large for a capacity none has boxes.
-use Prim.Native.Nat.{ℕ, _+_, _-_, _^_, _<_, _≤_}
+use Prim.Native.Nat.{ℕ, _+_, _^_, _<_, _≤_}
 use native.Mathlib.Omega.{arith}
 use mathlib.Core.Path.{_≡_}
 use mathlib.Core.List.{List, []}
@@ -20,6 +20,4 @@ other-size rows holds header n s m h = by-bool (ltb m (2 ^ n)) (λ e. rw (e, ne-
 pub too-large : (rows holds : List ℕ) (header n s k : ℕ) → s + 1 < ones (at table k) → (j : ℕ) → k ≤ j → j < 255
     → setWords rows holds header n s (at table j) ≡ []
 too-large rows holds header n s k h j l b =
-    let e : k + (j - k) ≡ j = omega arith in
-    let r = rw e at (sizes-rise (j - k) k (omega arith)) in
-    other-size rows holds header n s (at table j) (λ q. absurd (omega (arith, r, q)))
+    other-size rows holds header n s (at table j) (λ q. absurd (omega (arith, sizes-rise k j l b, q)))

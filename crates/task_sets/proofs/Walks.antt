@@ -1,18 +1,22 @@
 -- The walk from a set to the next: how its row of tasks comes down, how its gap is found, and that its sets are the table.
 use Prim.Native.Nat.{ℕ, zero, suc, _+_, _*_, _-_, _/_, _^_, _<_, _≤_}
-use native.Mathlib.Nat.{pow-suc, add-zero}
+use native.Mathlib.Nat.{pow-suc}
 use native.Mathlib.Omega.{arith}
 use mathlib.Core.Path.{_≡_, refl, _∙_}
-use mathlib.Core.Bool.{Bool, true, false, not, _&&_}
+use mathlib.Core.Bool.{false, not, _&&_}
 use lib.Count.{ones}
-use lib.Dec.{eqb, leb}
-use borrow.Author.Tests.{lt-ltb, le-ltb, eqb-true, leb-true, not-false}
+use lib.Dec.{eqb, ltb}
+use lib.ListN.{length}
+use borrow.Author.Tests.{lt-ltb, le-ltb, eqb-true, eqb-false, ltb-true, not-false}
 use Rattle.model.specs.Below.{any}
 use Rattle.model.specs.Set.{at}
 use Rattle.model.specs.Forbidden.{choose}
 use Rattle.model.specs.TaskTable.{maskOf, masksFrom, table}
-use Rattle.model.proofs.Bools.{and-true, any-false}
+use Rattle.model.proofs.Bools.{by-bool, by-cases, and-true, or-true, any-false}
+use Rattle.task_sets.specs.Order.{tasksOf, listBefore, setBefore}
 use Rattle.task_sets.specs.Next.{follow, after, next, run, Walk}
+use Rattle.task_sets.proofs.Order.{table-in-order}
+use Rattle.task_sets.proofs.Size.{ones-tasks}
 
 -- half of task j + 1 is task j
 half : (j : ℕ) → 2 ^ suc j / 2 ≡ 2 ^ j
@@ -61,30 +65,40 @@ pub walk : Walk
 unfolding run after follow table masksFrom maskOf choose
 walk = record { whole = refl; ends = refl }
 
--- a set of the table and the one behind it: the second is worked out from the first, and has no fewer tasks
-neighbour : ℕ → Bool
-neighbour k = eqb (at table (k + 1)) (next (at table k)) && leb (ones (at table k)) (ones (at table (k + 1)))
+-- each set of a run is worked out from the one before
+run-next : (j k m : ℕ) → k + 1 < j → at (run j m) (k + 1) ≡ next (at (run j m) k)
+unfolding run
+run-next zero k m h = absurd (omega arith)
+run-next (suc zero) k m h = absurd (omega arith)
+run-next (suc (suc j)) zero m h = refl
+run-next (suc (suc j)) (suc k) m h =
+    let e : suc k + 1 ≡ suc (k + 1) = omega arith in
+    rw e (run-next (suc j) k (next m) (omega arith))
 
-neighbours : any 254 (λ k. not (neighbour k)) ≡ false
-unfolding any neighbour after follow table masksFrom maskOf choose ones
-neighbours = refl
-
-neighbour-at : (k : ℕ) → k < 254 → neighbour k ≡ true
-neighbour-at k h = not-false (neighbour k) (any-false 254 (λ k. not (neighbour k)) neighbours k h)
-
+-- so is each of the table
 pub table-next : (k : ℕ) → k < 254 → at table (k + 1) ≡ next (at table k)
-unfolding neighbour
-table-next k h =
-    eqb-true (at table (k + 1)) (next (at table k))
-    (and-true (eqb (at table (k + 1)) (next (at table k))) (leb (ones (at table k)) (ones (at table (k + 1)))) (neighbour-at k h) .0)
+table-next k h = rw (walk .whole) at (run-next 255 k 1 (omega arith))
+
+bytes : any 255 (λ k. not (ltb (at table k) 256)) ≡ false
+unfolding any table masksFrom maskOf choose
+bytes = refl
+
+-- the tasks of a set of the table, counted both ways
+size-at : (k : ℕ) → k < 255 → ones (at table k) ≡ length (tasksOf (at table k))
+size-at k h =
+    let b = any-false 255 (λ k. not (ltb (at table k) 256)) bytes k h in
+    ones-tasks (at table k) (ltb-true (at table k) 256 (not-false (ltb (at table k) 256) b))
 
 -- no set has more tasks than one behind it
-pub sizes-rise : (j i : ℕ) → i + j < 255 → ones (at table i) ≤ ones (at table (i + j))
-unfolding neighbour
-sizes-rise zero i h = rw (add-zero i) (omega arith)
-sizes-rise (suc j) i h =
-    let k = i + j in
-    let l = leb-true (ones (at table k)) (ones (at table (k + 1)))
-    (and-true (eqb (at table (k + 1)) (next (at table k))) (leb (ones (at table k)) (ones (at table (k + 1)))) (neighbour-at k (omega arith)) .1) in
-    let e : i + suc j ≡ k + 1 = omega arith in
-    rw e (omega (arith, l, sizes-rise j i (omega arith)))
+pub sizes-rise : (i j : ℕ) → i ≤ j → j < 255 → ones (at table i) ≤ ones (at table j)
+unfolding setBefore
+sizes-rise i j h l =
+    by-bool (eqb i j) (λ e. rw (eqb-true i j e) (omega arith)) λ e.
+    let n = eqb-false i j e in
+    let x = length (tasksOf (at table i)) in
+    let y = length (tasksOf (at table j)) in
+    let p = size-at i (omega arith) in
+    let q = size-at j l in
+    by-cases (or-true (ltb x y) (eqb x y && listBefore (tasksOf (at table i)) (tasksOf (at table j))) (table-in-order i j (omega (arith, n)) l))
+    (λ b. omega (arith, p, q, ltb-true x y b))
+    (λ b. omega (arith, p, q, eqb-true x y (and-true (eqb x y) (listBefore (tasksOf (at table i)) (tasksOf (at table j))) b .0)))
