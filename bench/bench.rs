@@ -8,7 +8,8 @@
 //
 // The two take turns, and the best of many turns counts: what else the machine does meanwhile only ever adds to a time. A turn is a batch of calls, as many as
 // take long enough for the clock. Where code lies in memory moves a time by up to a tenth, so bench/run builds the benchmark several times, with SHIFT from 0 on,
-// and bench/best.py takes the best of all: each build has 16 bytes more in front of the library's code. So a minute in which the machine is slow spoils no best time.
+// and bench/best.py takes the best of all: each build has 16 bytes more in front of the library's code. The builds run one after the other, so a minute in which the
+// machine is slow spoils no best time either.
 #[allow(dead_code)]
 #[path = "baseline.rs"]
 mod baseline;

@@ -26,7 +26,7 @@ def stored(sets, width):
 
 
 def runs_in(data):
-    """The runs of the table that stand in the data, those of the width that most do. Sets of one task are passed over: they are the powers of two, which loops over bits are made with."""
+    """The runs of the table that stand in the data, of the one width of which most do. Sets of one task are passed over: they are the powers of two, which loops over bits are made with."""
     sets = table()[TASKS:]
     found = {width: [] for width in RUN}
     for width, length in RUN.items():

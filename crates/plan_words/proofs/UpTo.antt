@@ -1,4 +1,4 @@
--- What numbers give, one after the other: the same for each number, a list's words, and what a list's members give.
+-- What numbers give, one after the other: the same for each number, nothing, a list's words, and what a list's members give.
 use Prim.Native.Nat.{ℕ, zero, suc, _+_, _≤_, _<_}
 use native.Mathlib.Numerals.{add-one}
 use native.Mathlib.Omega.{arith}

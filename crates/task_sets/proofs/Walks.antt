@@ -1,4 +1,4 @@
--- The walk from a set to the next: how its row of tasks comes down, how its gap is found, and that its sets are the table.
+-- The walk from a set to the next: how its row of tasks comes down, how its gap is found, and that its sets are the table, in which sizes never fall.
 use Prim.Native.Nat.{ℕ, zero, suc, _+_, _*_, _-_, _/_, _^_, _<_, _≤_}
 use native.Mathlib.Nat.{pow-suc}
 use native.Mathlib.Omega.{arith}

@@ -37,7 +37,7 @@ fn follow(before: u8, gap: u8) -> u8
     before - task + row
 }
 
-// The next set, from the mask of a set alone: the tasks from task 7 down to the last absent one are taken off, and follow.
+// The next set, from the mask of a set alone: the tasks behind the last absent one are taken off, and `follow` puts them where they come next.
 pub fn next_set(mask: u8) -> u8
     ensures { λ r. ⌜ r ≡ next mask ⌝ }
 {
