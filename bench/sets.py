@@ -70,6 +70,23 @@ def fine_tiles(n):
     return [1] * 4, [hand_over_hand(n, 0, 1, [3, 2]), hand_over_hand(n, 2, 3, [0, 1])]
 
 
+def turns(n, one, m, other):
+    """The first task's actions n times over, the second's m times: at each end nothing is held, so the dead states are those of one turn of each, n * m times."""
+    return [1] * 3, [pairs(n, one), pairs(m, other)]
+
+
+def dead_unreached(n, m):
+    """Each turn of both has one dead state, which lies in a pocket of forbidden boxes: no steps lead there from the start."""
+    one = [claim(2), claim(1), release(2), claim(0), release(1), release(0)]
+    return turns(n, one, m, [claim(2), claim(1), release(1), claim(0), claim(1), release(2), release(1), release(0)])
+
+
+def dead_both(n, m):
+    """Each turn of both has two dead states, one that is reached and one that isn't: the twenty words of docs/AUTHORS.md, again and again."""
+    one = [claim(1), claim(0), claim(2), release(1), claim(1), release(0), release(1), release(2)]
+    return turns(n, one, m, [claim(1), claim(0), release(0), claim(2), release(2), release(1)])
+
+
 def apart(n):
     """Two tasks of n claims and releases of a device of their own: every state is open, and the plan is one word."""
     return [1, 1], [pairs(n, [claim(0), release(0)]), pairs(n, [claim(1), release(1)])]
@@ -133,6 +150,9 @@ save("crossings_idle", capacities, [there] + [[]] * 6 + [back])
 save("great_box", *great_box(125))
 # 250 forbidden boxes and 15,749 unsafe ones.
 save("fine_tiles", *fine_tiles(125))
+# 1,302 dead states of which none is reached; and 1,302 that are and 1,302 that aren't.
+save("dead_unreached", *dead_unreached(42, 31))
+save("dead_both", *dead_both(31, 42))
 # As many words as an accepted list can have, 533: 16 devices, eight tasks, two of them of 254 actions.
 save("longest_accepted", [1] * 16, [[]] * 3 + [[a for i in range(127) for a in (claim(d + i % 8), release(d + i % 8))] for d in (0, 8)] + [[]] * 3)
 # As many words as a list can have before its grid is looked at: 16 devices and eight tasks of 254 actions, 2,057 words, refused with 12. It is read and no more,

@@ -33,7 +33,7 @@
 
 /* The version of this header: major times 10,000, minor times 100, patch. Header and library must be of the same one, since structs and
  * numbers may differ between two: compare it with arbiter_version() once, when the host starts, and stop if they differ. */
-#define ARBITER_VERSION 10101
+#define ARBITER_VERSION 20000
 
 /* The limits of a set. */
 #define ARBITER_MAX_WORDS 4096
@@ -54,10 +54,11 @@
 #define ARBITER_END 5     /* field: the number of words before it */
 
 /* The kinds of a plan's words. */
-#define ARBITER_FORBIDDEN_BOX 6 /* field: the device that would have too many holders; a SIDE for each task follows */
-#define ARBITER_UNSAFE_BOX 7    /* field: 0; a SIDE for each task follows */
-#define ARBITER_SIDE 8          /* field: bits 23 to 16 the task, 15 to 8 its lowest, 7 to 0 its highest position in the box */
-#define ARBITER_DEAD_STATE 9    /* field: the state's rank */
+#define ARBITER_FORBIDDEN_BOX 6    /* field: the device that would have too many holders; a SIDE for each task follows */
+#define ARBITER_UNSAFE_BOX 7       /* field: 0; a SIDE for each task follows */
+#define ARBITER_SIDE 8             /* field: bits 23 to 16 the task, 15 to 8 its lowest, 7 to 0 its highest position in the box */
+#define ARBITER_DEAD_STATE 9       /* field: the rank of a dead state to which allowed steps lead from the start */
+#define ARBITER_UNREACHED_STATE 10 /* field: the rank of a dead state that no run can enter */
 
 /* The map's bytes. */
 #define ARBITER_OPEN 0      /* the end can be reached from this state */
@@ -371,7 +372,8 @@ typedef struct arbiter_box {
 } arbiter_box;
 
 /* Writes the box that starts at plan[*at], moves *at behind it and gives 1; gives 0 and changes nothing where no box starts, so after the last.
- * For all boxes: size_t at = 0; while (arbiter_next_box(plan, plan_len, &at, &box)) .. Then plan[at] is the first DEAD_STATE, or END.
+ * For all boxes: size_t at = 0; while (arbiter_next_box(plan, plan_len, &at, &box)) .. Then plan[at] is the first DEAD_STATE; if there is none, the
+ * first UNREACHED_STATE, or END.
  * For the box that arbiter_locate answers: size_t at = answer.value. */
 static inline int arbiter_next_box(const uint32_t *plan, size_t plan_len, size_t *at, arbiter_box *box) {
     if (*at >= plan_len) return 0;

@@ -322,31 +322,62 @@ def apart(lengths):
     return Set([1] * (len(lengths) + 1), tasks)
 
 
-# Sets in which a next state lies in several boxes and it counts which of them is the blocker: the number of devices, all of capacity 1, and the tasks, with + for a
+# Sets in which a next state lies in several boxes and it counts which of them is the blocker: the devices' capacities, a digit each, and the tasks, with + for a
 # claim and - for a release. They are rare among random sets.
 SEVERAL_BLOCKERS = [
-    "3 +0+2+1-2-1+2-0-2 +1+2+0-0-2-1",
-    "3 +1+0+2-0-2-1 +2+0+1-0-1+0-0-2",
-    "3 +2+0+1-0-1+0-2-0 +1+0+2-0-1-2",
-    "3 +1+0-1+2-2-0 +2+0+1-0+0-2-1-0",
-    "3 +2+1+0-1+1-1-2-0 +0+1-0+2-1-2",
-    "3 +1-1+1+2+0-0-2+2-1-2 +0+2+1-0-2-1",
-    "3 +0+1+2-1-0-2 +1+2-2+2+0-0-1+1-2-1",
-    "3 +0+2-0+1-1-2 +1+2+0-0+0-2+2-0-1-2",
-    "4 +1+0-1+3-0-3 +1-1+0+3+1-0+0-1-3-0",
-    "3 +0+2-0+1-2-1 +2+1+0-2+2-2+2-0-2-1",
-    "3 +2+0+1-0+0-0-2-1 +1+0-1+2+1-2-0-1",
-    "3 +0+1+2-1+1-0-2-1 +0+2-0+1-2+0-1-0",
-    "4 +1+0+3+2-0-2-1-3 +0+2+1-1-0+3+0-0-2-3",
-    "5 +4+2+3-4-3+4-2-4 +0+4-0-4+3+4+2-3-4-2",
-    "3 +0+2+1-0+0-2-0-1 +0+1-0+0-1+2+1-2-0-1",
+    "111 +0+2+1-2-1+2-0-2 +1+2+0-0-2-1",
+    "111 +1+0+2-0-2-1 +2+0+1-0-1+0-0-2",
+    "111 +2+0+1-0-1+0-2-0 +1+0+2-0-1-2",
+    "111 +1+0-1+2-2-0 +2+0+1-0+0-2-1-0",
+    "111 +2+1+0-1+1-1-2-0 +0+1-0+2-1-2",
+    "111 +1-1+1+2+0-0-2+2-1-2 +0+2+1-0-2-1",
+    "111 +0+1+2-1-0-2 +1+2-2+2+0-0-1+1-2-1",
+    "111 +0+2-0+1-1-2 +1+2+0-0+0-2+2-0-1-2",
+    "1111 +1+0-1+3-0-3 +1-1+0+3+1-0+0-1-3-0",
+    "111 +0+2-0+1-2-1 +2+1+0-2+2-2+2-0-2-1",
+    "111 +2+0+1-0+0-0-2-1 +1+0-1+2+1-2-0-1",
+    "111 +0+1+2-1+1-0-2-1 +0+2-0+1-2+0-1-0",
+    "1111 +1+0+3+2-0-2-1-3 +0+2+1-1-0+3+0-0-2-3",
+    "11111 +4+2+3-4-3+4-2-4 +0+4-0-4+3+4+2-3-4-2",
+    "111 +0+2+1-0+0-2-0-1 +0+1-0+0-1+2+1-2-0-1",
+]
+
+# Sets with dead states that are reached and some that aren't, in the same notation; and sets with dead states of which none is reached, which are rare among random
+# ones. In those of three and four tasks no task can be left out.
+BOTH_DEAD = [
+    "111 +1+0+2-1+1-0-1-2 +1+0-0+2-2-1",
+    "11 +1+0-0+0-0-1 +1+0-1+1-0+0-1-0",
+    "11 +0+1-1+1-0+0-1-0 +1+0-1+1-1+1-1-0",
+    "11 +0-0+0+1-1+1-1-0+1-1 +1+0-0-1+1+0-0+0-0-1",
+    "111 +1+0+2-2+2-1-2-0 +0+1+2-0-1+1+0-2-0-1",
+    "1111 +0+2-2+3-0-3 +2+0-0+1-2-1 +3+2-3-2 +1+3-3-1",
+    "1111 +3+0-3+1-1-0 +0+2+1-2+2-1-0-2 +0+2-0+3-2-3",
+    "12 +0+1-0+0-0-1 +0+1-0+0-1-0 +1+0-1+1-0-1",
+]
+ONLY_UNREACHED = [
+    "111 +2+1-2+0-1-0 +2+1-1+0+1-2-1-0",
+    "111 +1+0-1+2-0-2 +1+0+2-0+0-0+0-0-1-2",
+    "111 +0+2-0+1-1-2 +0+2+1-1+1-2+2-2-1-0",
+    "111 +2+1+0-1+1-1-2-0 +1-1+2+1-2+0-0-1",
+    "111 +1+2+0-2+2-2-0-1 +1+2-1+0-2-0",
+    "1111 +0+2-0+3-2+2-2-3 +2-2+3+1-1-3 +0+2-2+1+2-2-1-0",
+    "212 +1+2-1+0-2-0 +1+2+0-2+2-0-2-1 +0+1+2-1+1-0-2-1",
+    "1111 +1+3-1+0-0-3 +2+3-3-2 +1+3-3+0+2-0-2-1",
 ]
 
 
 def written_set(text):
     """A set from that notation."""
-    devices, *tasks = text.split()
-    return Set([1] * int(devices), [[(CLAIM if task[i] == "+" else RELEASE, int(task[i + 1])) for i in range(0, len(task), 2)] for task in tasks])
+    capacities, *tasks = text.split()
+    tasks = [[(CLAIM if task[i] == "+" else RELEASE, int(task[i + 1])) for i in range(0, len(task), 2)] for task in tasks]
+    return Set([int(capacity) for capacity in capacities], tasks)
+
+
+def with_idle(s):
+    """The set with idle tasks before the others, between them and behind them, and everywhere."""
+    first, *others = s.tasks
+    lists = [[[], first] + others, [first, []] + others, [first] + others + [[], []], [[], first, [], []] + others + [[]]]
+    return [Set(s.capacities, tasks) for tasks in lists]
 
 
 def named_sets():
@@ -357,7 +388,9 @@ def named_sets():
     sets += [Set([1] * n, [[]] * t) for n in (0, 1, 16) for t in (1, 2, 8)]
     sets += [Set(s.capacities, [[]] * k + s.tasks + [[]] * k) for s in (crossing(2), ring(3)) for k in (1, 2)]
     sets += [Set([1] * 14 + s.capacities, [[(kind, d + 14) for kind, d in task] for task in s.tasks]) for s in (crossing(2),)]
-    sets += [written_set(text) for text in SEVERAL_BLOCKERS]
+    sets += [written_set(text) for text in SEVERAL_BLOCKERS + BOTH_DEAD + ONLY_UNREACHED]
+    for texts in (BOTH_DEAD, ONLY_UNREACHED):
+        sets += with_idle(written_set(texts[0])) + with_idle(written_set(texts[-1]))
     return sets
 
 
@@ -550,7 +583,7 @@ def spoilt_heads(dice, plan):
     for head, _ in boxes_in(plan):
         word = plan[head]
         plans += [put(plan, head, word & 0xF0000000 | field) for field in (16 | word & 15, 0x100, 1 << dice.between(4, 27), 0xFFFFFFF)]
-        plans += [put(plan, head, kind << 28) for kind in dice.mixed([0, 1, 2, 3, 4, 5, 8, 9, 10, 15])[:3]]
+        plans += [put(plan, head, kind << 28) for kind in dice.mixed([0, 1, 2, 3, 4, 5, 8, 9, 10, 11, 15])[:3]]
         plans += [put(plan, head, 0x70000001)]
     return plans
 
@@ -564,28 +597,47 @@ def spoilt_sides(dice, plan):
             high = word & 255
             plans += [put(plan, place, word & 0xFFFF0000 | low << 8 | high) for low in {min(255, high + 1), 255} if high < low]
             plans += [put(plan, place, word ^ 1 << dice.between(24, 27)), put(plan, place, word ^ 1 << dice.between(16, 23))]
-            plans += [put(plan, place, word, word), put(plan, place), put(plan, place, dice.pick([0, 1, 5, 6, 7, 9, 10, 15]) << 28 | word & 0xFFFFFFF)]
+            plans += [put(plan, place, word, word), put(plan, place), put(plan, place, dice.pick([0, 1, 5, 6, 7, 9, 10, 11, 15]) << 28 | word & 0xFFFFFFF)]
             if place < last:
                 plans.append(put(plan, place, plan[place + 1]))
                 plans.append(recounted(plan[:place] + [plan[place + 1], plan[place]] + plan[place + 2 :]))
     return plans
 
 
+def rank_parts(plan):
+    """A plan without its END in three parts: its boxes, its dead states that are reached, and the others."""
+    return [[word for word in plan[:-1] if brute.kind_of(word) in kinds] for kinds in ((6, 7, 8), (9,), (10,))]
+
+
 def spoilt_ranks(plan):
-    """Ranks that are equal or fall, and that stand before a box, behind END and in a box."""
-    body, ranks = plan[:-1], [word for word in plan if brute.kind_of(word) == 9]
-    top = ranks[-1] if ranks else 0x90000005
-    rises = body if ranks else body + [top]
-    lists = [rises + more for more in ([top], [top - 1], [top + 1, top + 1], [top + 1, top], [0x9FFFFFFF, 0x90000000], [top + 1, 0x9FFFFFFF])]
-    plans = [words + [END << 28 | len(words)] for words in lists + [[0x90000000] + body, [0x9FFFFFFF] + body]]
-    if len(ranks) > 1:
-        places = [index for index, word in enumerate(plan) if word in ranks]
-        plans += [put(plan, place, plan[place - 1]) for place in places[1:]]
-    return plans + [put(plan, last, plan[last], 0x90000000) for _, last in boxes_in(plan)] + [put(plan, head, plan[head], 0x90000000) for head, _ in boxes_in(plan)]
+    """Ranks of either kind that are equal or fall, and that stand before a box and in one; and unknown kinds behind them."""
+    body, *lists = rank_parts(plan)
+    plans = []
+    for number, kind in enumerate((9, 10)):
+        least, most = kind << 28, kind << 28 | 0xFFFFFFF
+        rises = lists[number] or [least | 5]
+        top = rises[-1]
+        for more in ([], [top], [top - 1], [top + 1, top + 1], [top + 1, top], [most, least], [top + 1, most]):
+            reached, others = lists[:number] + [rises + more] + lists[number + 1 :]
+            plans.append(closed(body + reached + others))
+        plans += [closed([word] + plan[:-1]) for word in (least, most)]
+        plans += [put(plan, place, plan[place - 1]) for place in range(1, len(plan)) if brute.kind_of(plan[place - 1]) == brute.kind_of(plan[place]) == kind]
+        plans += [put(plan, place, plan[place], least) for box in boxes_in(plan) for place in box]
+    return plans + [closed(plan[:-1] + [kind << 28 | 5]) for kind in (11, 12, 13, 14, 15)]
+
+
+def mixed_ranks(plan):
+    """Each rank in the other kind; behind the reached ones others that are lower, equal and higher, which the layout takes, and behind these a reached one, which it doesn't."""
+    body, reached, others = rank_parts(plan)
+    plans = [put(plan, place, plan[place] ^ 0x30000000) for place in range(len(body), len(plan) - 1)]
+    plans += [closed(body + reached + [0xA0000000 | field]) for field in [0, 0xFFFFFFF] + [brute.field_of(rank) for rank in reached]]
+    others = others or [0xA0000005]
+    top = brute.field_of(others[-1])
+    return plans + [closed(body + reached + others + [0x90000000 | field]) for field in (0, top, top + 1, 0xFFFFFFF)]
 
 
 def spoilt_orders(plan):
-    """Boxes of the two kinds exchanged, a forbidden box behind ranks, END before its time."""
+    """Boxes of the two kinds exchanged, a box behind ranks, END before its time."""
     plans = []
     boxes = boxes_in(plan)
     for (head, last), (other, end) in zip(boxes, boxes[1:]):
@@ -599,12 +651,12 @@ def spoilt_ends(dice, plan):
     """A wrong count, and words behind END."""
     count = len(plan) - 1
     plans = [plan[:-1] + [END << 28 | (count + wrong) % 2**28] for wrong in (1, -1, 256, 1 << dice.between(9, 27))]
-    return plans + [plan + more for more in ([END << 28 | len(plan)], [plan[-1]], [0x90000000 | 0xFFFFFFF], [0x60000000], [0], [0xFFFFFFFF, 0])]
+    return plans + [plan + more for more in ([END << 28 | len(plan)], [plan[-1]], [0x9FFFFFFF], [0xAFFFFFFF], [0x60000000], [0], [0xFFFFFFFF, 0])]
 
 
 def damaged(dice, plan, most):
     """Up to so many plans damaged at one of its places, and the plan cut at every length."""
-    spoilt = spoilt_heads(dice, plan) + spoilt_sides(dice, plan) + spoilt_ranks(plan) + spoilt_orders(plan) + spoilt_ends(dice, plan)
+    spoilt = spoilt_heads(dice, plan) + spoilt_sides(dice, plan) + spoilt_ranks(plan) + mixed_ranks(plan) + spoilt_orders(plan) + spoilt_ends(dice, plan)
     return dice.mixed(spoilt)[:most] + [plan[:length] for length in range(len(plan))]
 
 
@@ -614,7 +666,7 @@ def bit_changes(plan):
 
 
 def random_plan(dice, tasks):
-    """A plan of the layout that no set need have: boxes that overlap, in one kind and in both, any ranks."""
+    """A plan of the layout that no set need have: boxes that overlap, in one kind and in both, any ranks, in one kind and in both."""
     top = dice.pick([1, 2, 3, 5, 255])
     words = []
     for head in [0x60000000 | dice.below(16) for _ in range(dice.below(4))] + [0x70000000] * dice.below(4):
@@ -622,8 +674,10 @@ def random_plan(dice, tasks):
         for task in range(tasks):
             low, high = sorted((dice.between(0, top), dice.between(0, top)))
             words.append(0x80000000 | task << 16 | low << 8 | high)
-    ranks = {dice.below(4) if dice.one_in(2) else dice.bits() >> 4 for _ in range(dice.below(4))}
-    return closed(words + [0x90000000 | rank for rank in sorted(ranks)])
+    for kind in (9, 10):
+        ranks = {dice.below(4) if dice.one_in(2) else dice.bits() >> 4 for _ in range(dice.below(4))}
+        words += [kind << 28 | rank for rank in sorted(ranks)]
+    return closed(words)
 
 
 def random_words(dice, tasks):
@@ -631,8 +685,8 @@ def random_words(dice, tasks):
     words = []
     for index in range(dice.below(9)):
         side = 0x80000000 | dice.below(tasks + 1) << 16 | dice.below(3) << 8 | dice.between(1, 3)
-        rank, end = 0x90000000 | dice.below(4), END << 28 | index + dice.pick([0, 0, 1])
-        words.append(dice.pick([0x60000000 | dice.below(17), 0x70000000, 0x70000000 | dice.below(2), side, side, side, rank, rank, end, dice.bits()]))
+        reached, other, end = 0x90000000 | dice.below(4), 0xA0000000 | dice.below(4), END << 28 | index + dice.pick([0, 0, 1])
+        words.append(dice.pick([0x60000000 | dice.below(17), 0x70000000, 0x70000000 | dice.below(2), side, side, side, reached, reached, other, other, end, dice.bits()]))
     return words
 
 
@@ -689,9 +743,10 @@ def small_plan_set(dice):
 
 
 def wide_plan(dice, tasks):
-    """A plan of the layout with a box of each kind, and a rank."""
+    """A plan of the layout with a box of each kind, and a rank of each."""
     sides = [[0x80000000 | task << 16 | dice.below(3) << 8 | dice.between(3, 255) for task in range(tasks)] for _ in range(2)]
-    return closed([0x60000000 | dice.below(16)] + sides[0] + [0x70000000] + sides[1] + [0x90000000 | dice.below(1000)])
+    ranks = [kind << 28 | dice.below(1000) for kind in (9, 10)]
+    return closed([0x60000000 | dice.below(16)] + sides[0] + [0x70000000] + sides[1] + ranks)
 
 
 def at_edges(dice, plan, tasks, plans):
@@ -703,9 +758,11 @@ def stored_cases(dice):
     """Damaged plans of known and random sets, random plans, damaged ones for many tasks, and words at random."""
     cases = []
     small = [crossing(2), users(1, 2, 1), users(2, 3, 1), ring(2), written_set(SEVERAL_BLOCKERS[0]), Set([1], [[]] + users(1, 2, 1).tasks)]
-    for s in small + [small_plan_set(dice) for _ in range(8)]:
+    # These two are damaged in every way.
+    unreached = [written_set(BOTH_DEAD[0]), written_set(ONLY_UNREACHED[0])]
+    for s in small + [small_plan_set(dice) for _ in range(8)] + unreached:
         plan, tasks = brute.plan_of(s), len(s.tasks)
-        asked = at_edges(dice, plan, tasks, damaged(dice, plan, 90))
+        asked = at_edges(dice, plan, tasks, damaged(dice, plan, 1000 if s in unreached else 90))
         asked += [(words, [locate_call(dice, count, [0] * 8) for count in (0, 9)]) for words in ([], plan, plan[:-1])]
         cases += question_cases(s, asked)
     least = Set([], [[]])
@@ -883,6 +940,17 @@ def named_cases(dice):
     return cases
 
 
+def dead_cases(dice):
+    """Sets with dead states that aren't reached, with plan slices that are too short: by one word and more, and by the words of these states alone."""
+    cases = []
+    for text in (BOTH_DEAD[0], BOTH_DEAD[2], ONLY_UNREACHED[0], ONLY_UNREACHED[1]):
+        s = written_set(text)
+        plan = brute.plan_of(s)
+        _, _, unreached = rank_parts(plan)
+        cases += short_cases(dice, s) + [Case(words_of(*s), grid_of(s), len(plan) - len(unreached), random_calls(dice, s, 4))]
+    return cases
+
+
 def large_cases(dice):
     """The large sets: few calls, and a map slice too short by one for each."""
     cases = []
@@ -905,7 +973,7 @@ def faulty_cases(dice):
 
 def all_cases():
     dice = Dice(SEED)
-    return named_cases(dice) + small_cases(dice) + faulty_cases(dice) + large_cases(dice) + stored_cases(dice)
+    return named_cases(dice) + dead_cases(dice) + small_cases(dice) + faulty_cases(dice) + large_cases(dice) + stored_cases(dice)
 
 
 def swept_states(tasks, low, high):

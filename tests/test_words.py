@@ -21,12 +21,17 @@ import words  # noqa: E402
 PRINTER = os.path.abspath(sys.argv[1]) if len(sys.argv) > 1 else None
 EXAMPLE_A = os.path.join(ROOT, "examples", "a.words")
 EXAMPLE_D = os.path.join(ROOT, "examples", "d.words")
+EXAMPLE_R = os.path.join(ROOT, "examples", "r.words")
 
-# Desk examples a and d of docs/SCOPE.md, word by word, and the plan of a.
+# Desk examples a and d of docs/SCOPE.md and r of docs/AUTHORS.md, word by word, and the plans of a and r.
 A = "10000001 10000001 20000000 30000000 30000001 40000001 40000000 20000000 30000001 30000000 40000000 40000001 5000000C"
 D = """10000001 10000001 10000001 20000000 30000002 30000000 40000002 30000001 40000001 40000000
        20000000 30000001 30000002 40000002 30000000 40000000 40000001 50000011"""
+R = """10000001 10000001 10000001 20000000 30000001 30000000 30000002 40000001 30000001 40000000
+       40000001 40000002 20000000 30000001 30000000 40000000 30000002 40000002 40000001 50000013"""
 A_PLAN = "60000000 80000103 80010202 60000001 80000202 80010103 70000000 80000101 80010101 90000006 5000000A"
+R_PLAN = """60000000 80000205 80010202 60000001 80000103 80010105 60000001 80000506 80010105 60000002 80000307 80010404
+            70000000 80000304 80010103 9000001D A000001F 50000011"""
 
 # The limits of a set, and how many refusals there are.
 DEVICES, TASKS, ACTIONS, WORDS, REFUSALS = 16, 8, 255, 4096, 23
@@ -101,26 +106,27 @@ class Reading(Case):
         return str(raised.exception).replace(path, "FILE")
 
     def test_examples(self):
-        for path, expected in ((EXAMPLE_A, A), (EXAMPLE_D, D)):
+        for path, expected in ((EXAMPLE_A, A), (EXAMPLE_D, D), (EXAMPLE_R, R)):
             text = set_text.read_text(path)
             self.assertEqual([word.value for word in text.words], words_in(expected))
             self.assertEqual(text.warnings, [])
 
     def test_examples_of_the_page(self):
-        """The page for authors writes example a in both ways."""
+        """The page for authors writes example a in both ways, a word a line, and has the words of r."""
         with open(os.path.join(ROOT, "docs", "AUTHORS.md"), encoding="utf-8") as file:
             page = file.read()
         blocks = [block for block in re.findall(r"(?:^    .*\n)+", page, re.M) if re.match(r"    (10000001|DEVICE)", block)]
-        self.assertEqual(len(blocks), 2)
-        for block in blocks:
+        self.assertEqual(len(blocks), 3)
+        for block in blocks[:2]:
             self.assertEqual(self.words(block), words_in(A))
+        self.assertEqual(blocks[2].split(), R.split())
 
-    def test_plan_of_the_page(self):
-        """The page lists the plan of example a by its indices."""
+    def test_plans_of_the_page(self):
+        """The page lists the plans of r and of example a by their indices."""
         with open(os.path.join(ROOT, "docs", "AUTHORS.md"), encoding="utf-8") as file:
             page = file.read()
         listed = re.findall(r"^ +([0-9]+) +([0-9A-F]{8})    +\S", page, re.M)
-        self.assertEqual(listed, [(str(index), word) for index, word in enumerate(A_PLAN.split())])
+        self.assertEqual(listed, [(str(index), word) for plan_words in (R_PLAN, A_PLAN) for index, word in enumerate(plan_words.split())])
 
     def test_names(self):
         text = "DEVICE 1\nDEVICE 8\nTASK\nCLAIM 0\nCLAIM 10\nRELEASE 00010\nRELEASE 0\nEND\n"
@@ -263,9 +269,10 @@ class Words(Case):
 
     def test_printed_plans(self):
         """A plan is words in digits too: its bytes, and the line of one of its words."""
-        path = self.file(lines_in(A_PLAN), "a.plan")
-        self.assertEqual(self.here(words, path), Ended(0, bytes_in(A_PLAN), ""))
-        self.assertEqual(self.here(words, "--where", "3", path), Ended(0, (path + ":4: 60000001\n").encode(), ""))
+        for plan_words, index, line in ((A_PLAN, "3", ":4: 60000001\n"), (R_PLAN, "16", ":17: A000001F\n")):
+            path = self.file(lines_in(plan_words), "x.plan")
+            self.assertEqual(self.here(words, path), Ended(0, bytes_in(plan_words), ""))
+            self.assertEqual(self.here(words, "--where", index, path), Ended(0, (path + line).encode(), ""))
 
     def test_usage(self):
         for arguments in ([], ["a", "b"], ["--unknown", "a"], ["--wher", "0", "a"], ["--where"], ["a\nb", "c\nd"]):
@@ -290,7 +297,7 @@ class Plans(Case):
         return self.here(plan, "--printer", self.printer(output, ending), *arguments)
 
     def test_whole_plans(self):
-        for output in (b"50000000\n", lines_in(A_PLAN)):
+        for output in (b"50000000\n", lines_in(A_PLAN), lines_in(R_PLAN)):
             self.assertEqual(self.plan(output, EXAMPLE_A), Ended(0, output, ""))
             self.assertEqual(self.kept("input"), bytes_in(A))
 
@@ -419,6 +426,7 @@ class RealPrinter(Case):
     def test_plans(self):
         self.assertEqual(self.plan(EXAMPLE_A), Ended(0, lines_in(A_PLAN), ""))
         self.assertEqual(self.plan(EXAMPLE_D).status, 0)
+        self.assertEqual(self.plan(EXAMPLE_R), Ended(0, lines_in(R_PLAN), ""))
         self.assertEqual(self.plan("--bytes", self.file(bytes_in("20000000 50000001"))), Ended(0, b"50000000\n", ""))
 
     def test_refusals(self):

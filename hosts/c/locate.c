@@ -4,7 +4,7 @@
  *
  * The plan is text as the printer prints it, a word a line in eight hexadecimal digits, letters as capitals (a carriage return at a line's end,
  * and a last line that isn't ended, are let pass); or stored words, four bytes each, lowest first. A file in which every byte is a printable ASCII
- * character, a tab or a line's end is text. No plan in stored words is one: a word of kind 8 or 9 has a byte over 7F, and without any there is END
+ * character, a tab or a line's end is text. No plan in stored words is one: a word of kind 8, 9 or A has a byte over 7F; without any there is END
  * alone, which counts 0 words before it. So no plan is taken for one in the other form; stored words that look like text are turned away as text.
  *
  * Exit status: 0; 1 for a refusal, which is printed: that of the question, or one by the printer that the file has in the place of a plan; 2 with a

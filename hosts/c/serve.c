@@ -106,8 +106,9 @@ int main(int arguments, char **argument) {
     uint8_t *map = map_room(map_len);
     size_t plan_len;
     uint32_t *plan = plan_of(set, set_len, map, map_len, &plan_len);
-    printf("forbidden boxes: %zu, unsafe boxes: %zu, dead states: %zu\n", arbiter_count(plan, plan_len, ARBITER_FORBIDDEN_BOX),
-           arbiter_count(plan, plan_len, ARBITER_UNSAFE_BOX), arbiter_count(plan, plan_len, ARBITER_DEAD_STATE));
+    printf("forbidden boxes: %zu, unsafe boxes: %zu, dead states: %zu reached, %zu not\n", arbiter_count(plan, plan_len, ARBITER_FORBIDDEN_BOX),
+           arbiter_count(plan, plan_len, ARBITER_UNSAFE_BOX), arbiter_count(plan, plan_len, ARBITER_DEAD_STATE),
+           arbiter_count(plan, plan_len, ARBITER_UNREACHED_STATE));
 
     arbiter_record record = arbiter_fresh();
     size_t done = 0;

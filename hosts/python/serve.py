@@ -8,10 +8,10 @@ import sys
 from ctypes import POINTER, c_char_p, c_size_t, c_uint8, c_uint32, c_uint64
 
 # The numbers of include/arbiter.h that are used here.
-VERSION = 10101
+VERSION = 20000
 MAX_WORDS = 4096
 NOT_ANALYSED = 0xFF
-DEVICE, TASK, FORBIDDEN_BOX, UNSAFE_BOX, DEAD_STATE = 1, 2, 6, 7, 9
+DEVICE, TASK, FORBIDDEN_BOX, UNSAFE_BOX, DEAD_STATE, UNREACHED_STATE = 1, 2, 6, 7, 9, 10
 REFUSED, GRANTED, FINISHED, BUSY, HELD = 0, 4, 5, 6, 7
 TOO_MANY_WORDS, PLAN_TOO_SHORT, BYTES_NOT_WORDS = 2, 14, 15
 
@@ -120,7 +120,8 @@ def serve(library, path):
     print(f"words: {len(words)}, devices: {count(words, DEVICE)}, tasks: {tasks}, states: {states}")
 
     state_bytes, plan = analysed(library, words, states)
-    print(f"forbidden boxes: {count(plan, FORBIDDEN_BOX)}, unsafe boxes: {count(plan, UNSAFE_BOX)}, dead states: {count(plan, DEAD_STATE)}")
+    dead = f"{count(plan, DEAD_STATE)} reached, {count(plan, UNREACHED_STATE)} not"
+    print(f"forbidden boxes: {count(plan, FORBIDDEN_BOX)}, unsafe boxes: {count(plan, UNSAFE_BOX)}, dead states: {dead}")
 
     record = library.arbiter_fresh()
     number, done = 0, 0

@@ -8,9 +8,10 @@ use Rattle.model.specs.Hold.{heldTo, holdsFrom, holding, held as unitsHeld, per
 use Rattle.model.specs.Box.{inside, covered, firstBox}
 use Rattle.model.specs.Forbidden.{choose, prefixed, sidesOf, boxesOf, boxesOfAll, deviceBoxes, forbiddenFrom, forbidden}
 use Rattle.model.specs.Map.{stepsOnto, byte, lastBytes, bytes}
+use Rattle.model.specs.Reach.{steppedOnto, mark, firstMarks}
 use Rattle.model.specs.UnsafeBoxes.{getsBox, blockerLow, unsafeBox, lastUnsafe, unsafeBoxes}
 use Rattle.model.specs.Layout.{withEnd}
-use Rattle.model.specs.Plan.{ranksFrom, sideWords, forbiddenWords, unsafeWords, planWords}
+use Rattle.model.specs.Plan.{ranksFrom, keep, sideWords, forbiddenWords, unsafeWords, planWords}
 use Rattle.model.specs.Answer.{_then_, ifGiven}
 use Rattle.model.specs.Record.{misplaced, mapFits, placed}
 use Rattle.model.specs.Analysis.{planFits}
@@ -19,7 +20,7 @@ use Rattle.model.specs.Route.{stepFrom, walk, walked, routeFrom, routeSteps, ro
 use Rattle.demands.specs.Examples.{answers, Examples}
 
 pub examples-hold : Examples
-unfolding any tabulate maximum deviceOf size lastTask addAction heldAfter note outOfOrder fieldAllowed tooMany fault close readFrom read isEnd sum weight rank stateAt heldTo holdsFrom holding unitsHeld permitted inside covered firstBox choose prefixed sidesOf boxesOf boxesOfAll deviceBoxes forbiddenFrom forbidden stepsOnto byte lastBytes bytes getsBox blockerLow unsafeBox lastUnsafe unsafeBoxes withEnd ranksFrom sideWords forbiddenWords unsafeWords planWords _then_ ifGiven mapFits planFits misplaced placed bidByte bidAnswer isGranted afterCall afterList stepFrom walk walked routeFrom routeSteps routeFits answers
+unfolding any tabulate maximum deviceOf size lastTask addAction heldAfter note outOfOrder fieldAllowed tooMany fault close readFrom read isEnd sum weight rank stateAt heldTo holdsFrom holding unitsHeld permitted inside covered firstBox choose prefixed sidesOf boxesOf boxesOfAll deviceBoxes forbiddenFrom forbidden stepsOnto byte lastBytes bytes steppedOnto mark firstMarks getsBox blockerLow unsafeBox lastUnsafe unsafeBoxes withEnd ranksFrom keep sideWords forbiddenWords unsafeWords planWords _then_ ifGiven mapFits planFits misplaced placed bidByte bidAnswer isGranted afterCall afterList stepFrom walk walked routeFrom routeSteps routeFits answers
 examples-hold = record {
   a-answer = refl;
   a-plan = refl;
@@ -29,6 +30,7 @@ examples-hold = record {
   c-route = refl;
   d-unsafe = refl;
   d-dead = refl;
+  d-plan = refl;
   d-counts = refl;
   e-counts = refl;
   e-unsafe = refl;

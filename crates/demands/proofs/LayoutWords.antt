@@ -1,14 +1,14 @@
 -- The words of a set and of a plan are those of the layouts in SCOPE.md, "Sets" and "Plan".
 use Prim.Native.Nat.{ℕ, suc, _+_}
 use native.Mathlib.Omega.{arith}
-use mathlib.Core.Path.{_≡_, refl, ap₂}
-use mathlib.Core.List.{List, [], _∷_, _++_, map, flatten}
+use mathlib.Core.Path.{_≡_, refl, sym, ap₂, _∙_}
+use mathlib.Core.List.{List, [], _∷_, _++_, map, flatten, append-assoc}
 use lib.ListN.{length}
 use Rattle.model.specs.Set.{Action, claim, release, Task, Set}
 use Rattle.model.specs.Layout.{word, DEVICE, actionWord, taskWords, body, withEnd, encode}
 use Rattle.model.specs.Box.{Box}
 use Rattle.model.specs.Forbidden.{Forbidden}
-use Rattle.model.specs.Plan.{Plan, DEAD-STATE, sideWords, forbiddenWords, unsafeWords, planBody, planWords}
+use Rattle.model.specs.Plan.{Plan, DEAD-STATE, UNREACHED-STATE, sideWords, forbiddenWords, unsafeWords, rankWords, planBody, planWords}
 use Rattle.demands.specs.Reading.{wordOf, wordsOf}
 use Rattle.demands.specs.Analyses.{sidesFrom, listOf}
 
@@ -40,8 +40,7 @@ task-words [] = refl
 task-words (task ∷ tasks) = refl and-then joined (action-words task) (task-words tasks)
 
 device-words : (cs : List ℕ) → map (word DEVICE) cs ≡ map (λ c. 0x10000000 + c) cs
-device-words [] = refl
-device-words (c ∷ cs) = omega arith and-then device-words cs
+device-words cs = refl
 
 pub set-words : (s : Set) → encode s ≡ wordsOf s ++ ((0x50000000 + length (wordsOf s)) ∷ [])
 unfolding body
@@ -63,12 +62,11 @@ unfolding unsafeWords flatten
 unsafe-words [] = refl
 unsafe-words (b ∷ bs) = refl and-then joined (side-words 0 b) (unsafe-words bs)
 
-dead-words : (ds : List ℕ) → map (word DEAD-STATE) ds ≡ map (λ r. 0x90000000 + r) ds
-dead-words [] = refl
-dead-words (d ∷ ds) = omega arith and-then dead-words ds
-
+-- the words of ranks by computing
 pub body-words : (p : Plan) → planBody p ≡ listOf p
-body-words p = joined (joined (forbidden-words (p .forbidden)) (unsafe-words (p .unsafe))) (dead-words (p .dead))
+body-words p =
+    sym (append-assoc (forbiddenWords (p .forbidden) ++ unsafeWords (p .unsafe)) (rankWords DEAD-STATE (p .reached)) (rankWords UNREACHED-STATE (p .unreached)))
+    ∙ joined (joined (joined (forbidden-words (p .forbidden)) (unsafe-words (p .unsafe))) refl) refl
 
 pub plan-words : (p : Plan) → planWords p ≡ listOf p ++ ((0x50000000 + length (listOf p)) ∷ [])
 unfolding planWords

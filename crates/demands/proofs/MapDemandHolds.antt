@@ -1,27 +1,28 @@
 -- Open, unsafe and dead states are what SCOPE.md, "Map", says, and so is each byte of a slice that carries the map.
 use Prim.Native.Nat.{ℕ, zero, suc, _+_, _<_, _≤_}
 use native.Mathlib.Omega.{arith}
-use mathlib.Core.Path.{_≡_, refl}
+use mathlib.Core.Path.{_≡_, refl, sym}
 use mathlib.Core.Logic.{_↔_, Iff·trans, _⊎_, inl, inr}
 use mathlib.Core.Bool.{Bool, true, false}
-use mathlib.Core.List.{List, [], _∷_}
+use mathlib.Core.List.{List, [], _∷_, _++_}
 use lib.ListN.{length}
 use lib.Dec.{eqb}
 use borrow.Author.Tests.{eqb-true, eqb-false, ltb-true, lt-ltb}
 use Rattle.model.specs.Below.{any}
 use Rattle.model.specs.Set.{Set, lengthsOf, at}
-use Rattle.model.specs.State.{State, InGrid, next, unfinished, isEnd, sum, rank}
+use Rattle.model.specs.State.{State, InGrid, next, unfinished, start, isEnd, sum, rank}
 use Rattle.model.specs.Hold.{permitted}
-use Rattle.model.specs.Run.{CanEnd, is-end, step, allowed, Open, Dead}
-use Rattle.model.specs.Map.{Byte}
+use Rattle.model.specs.Run.{CanEnd, is-end, step, Reached, at-start, step-on, allowed, Open, Dead}
+use Rattle.model.specs.Map.{Byte, bytes}
 use Rattle.model.proofs.Bools.{by-bool, true-not-false, and-true, any-true, any-false}
-use Rattle.model.proofs.States.{unfinished-task, next-grid}
+use Rattle.model.proofs.States.{unfinished-task, next-grid, start-grid}
+use Rattle.model.proofs.StartOpen.{start-permitted}
 use Rattle.model.proofs.Ranks.{rank-lt}
 use Rattle.model.proofs.Sums.{sum-next, sum-lt}
 use Rattle.model.proofs.Byte.{dead-unsafe}
 use Rattle.model.proofs.MapExact.{map-right}
 use Rattle.model.proofs.Records.{Carries}
-use Rattle.demands.specs.MapDemand.{Leads, ReachesEnd, IsDead, IsOpen, IsUnsafe, Bytes, MapDemand}
+use Rattle.demands.specs.MapDemand.{Leads, ReachesEnd, IsReached, no-step-made, one-step-more, IsDead, IsOpen, IsUnsafe, Bytes, MapDemand}
 use Rattle.demands.proofs.StatesHold.{of-states}
 
 module _ (s : Set) where
@@ -67,6 +68,33 @@ module _ (s : Set) where
   pub dead-both : (x : State) → InGrid ls x → Dead ls (permitted s) x ↔ IsDead s x
   dead-both x g = (dead-is x g, is-dead x g)
 
+  -- reached, by the two definitions
+  reached-is : {x : State} → Reached ls (permitted s) x → IsReached s x
+  reached-is at-start = no-step-made
+  reached-is (step-on {x} t r a) =
+      let q = and-true (unfinished ls x t) (permitted s (next x t)) a in
+      one-step-more {x = x} t (reached-is r) (ltb-true (at x t) (at ls t) (q .0)) (q .1)
+
+  is-reached : {x : State} → IsReached s x → Reached ls (permitted s) x
+  is-reached no-step-made = at-start
+  is-reached (one-step-more {x} t r l p) = step-on {x = x} t (is-reached r) (rw (left x t l, p))
+
+  pub reached-both : (x : State) → Reached ls (permitted s) x ↔ IsReached s x
+  reached-both x = (reached-is, is-reached)
+
+  -- and by a list of steps: one more at its end, and all of them after a state that is reached
+  leads-more : (x : State) (ts : List ℕ) (y : State) (t : ℕ) → Leads s x ts y → at y t < at ls t → permitted s (next y t) ≡ true → Leads s x (ts ++ (t ∷ [])) (next y t)
+  leads-more x [] y t e l p = rw e (l, p, refl)
+  leads-more x (u ∷ ts) y t e l p = (e .0, e .1, leads-more (next x u) ts y t (e .2) l p)
+
+  reached-leads : {x : State} → IsReached s x → (ts : List ℕ) × Leads s (start ls) ts x
+  reached-leads no-step-made = ([], refl)
+  reached-leads (one-step-more {x} t r l p) = let (ts, e) = reached-leads r in (ts ++ (t ∷ []), leads-more (start ls) ts x t e l p)
+
+  leads-reached : (x : State) (ts : List ℕ) (y : State) → IsReached s x → Leads s x ts y → IsReached s y
+  leads-reached x [] y r e = rw (sym e) r
+  leads-reached x (t ∷ ts) y r e = leads-reached (next x t) ts y (one-step-more {x = x} t r (e .0) (e .1)) (e .2)
+
   abbrev someAllowed : State → Bool
   someAllowed x = any (length ls) (allowed ls (permitted s) x)
 
@@ -103,12 +131,32 @@ module _ (s : Set) where
       (t ∷ on .0, on .1, (l, q .1, on .2), on .3))
       (λ e. ([], x, refl, stuck x u e))
 
+  -- a reached state is a permitted one of the grid
+  reached-permitted : {x : State} → IsReached s x → InGrid ls x × (permitted s x ≡ true)
+  reached-permitted no-step-made = (start-grid ls, start-permitted s)
+  reached-permitted (one-step-more {x} t r l p) = (next-grid ls x (reached-permitted r .0) t (left x t l), p)
+
+  -- a reached state that isn't open is unsafe, and leads to a dead one, which is reached too
+  none-reached : ((y : State) → IsReached s y → IsDead s y → ⊥) → (x : State) → IsReached s x → IsOpen s x
+  none-reached none x r =
+      let (g, p) = reached-permitted r in
+      let says = map-right ls (permitted s) x g in
+      let byte = at (bytes ls (permitted s)) (rank ls x) in
+      let unsafe : (CanEnd ls (permitted s) x → ⊥) → ⊥ = λ u.
+      let (ts, y, leads, dead) = unsafe-dead (sum ls) x g (omega arith) (p, λ w. u (can-end x g .1 w)) in
+      none y (leads-reached x ts y r leads) dead in
+      by-bool (eqb byte 0) (λ e. let o = says .open-state .0 (eqb-true byte 0 e) in (p, can-end x g .0 (o .1))) λ e.
+      absurd (unsafe λ c. eqb-false byte 0 e (says .open-state .1 (p, c)))
+
 pub map-demand : MapDemand
 map-demand = record {
   can-end = can-end;
   dead = dead-both;
+  reached = reached-both;
+  reached-by = λ s x. (reached-leads s, λ l. leads-reached s (start (lengthsOf s)) (l .0) x no-step-made (l .1));
   dead-unsafe = λ s x g d. (d .is-permitted, (λ r. dead-unsafe (lengthsOf s) (permitted s) x (is-dead s x g d) (can-end s x g .1 r)));
   unsafe-dead = λ s x g. unsafe-dead s (sum (lengthsOf s)) x g (omega arith);
+  none-reached = none-reached;
 }
 
 -- an open state, by the definitions of Run and by its steps

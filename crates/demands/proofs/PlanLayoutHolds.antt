@@ -1,9 +1,9 @@
 -- Words are accepted exactly if they are a plan of the layout, and of one plan only.
-use Prim.Native.Nat.{ℕ, _≤_}
+use Prim.Native.Nat.{ℕ, _<_, _≤_}
 use native.Mathlib.Omega.{arith}
 use mathlib.Core.Path.{_≡_, refl, sym, ap, _∙_}
 use mathlib.Core.Logic.{_↔_}
-use mathlib.Core.List.{List, [], append-nil}
+use mathlib.Core.List.{List, [], append-nil, List·Memᴰ}
 use lib.ListN.{length}
 use Rattle.model.specs.Answer.{given}
 use Rattle.model.specs.State.{State}
@@ -11,16 +11,20 @@ use Rattle.model.specs.Box.{Box}
 use Rattle.model.specs.Plan.{Plan, planWords, planFrom}
 use Rattle.model.specs.StoredPlan.{nothingScanned, scanFrom, Location, locate}
 use Rattle.model.proofs.Each.{each-at, each-place, each-member, member-each}
-use Rattle.model.proofs.Fits.{FieldFits, SideFits, Sided, DeviceSided, ListsFit, PlanFits}
+use Rattle.model.proofs.Fits.{FieldFits, SideFits, Sided, DeviceSided, RanksFit, ListsFit, PlanFits}
 use Rattle.model.proofs.PlanBack.{length-plan, plan-back}
 use Rattle.model.proofs.PlanScans.{lists-scanned}
 use Rattle.model.proofs.PlanScanned.{Ended, given-ended, ended-words}
 use Rattle.model.proofs.Located.{lies, answered, accepted}
+use Rattle.demands.specs.Terms.{Ordered}
 use Rattle.demands.specs.StoredPlans.{BoxFor, ListsFor, PlanFor, wordsOf, IsPlan, PlanLayout}
 use Rattle.demands.proofs.LayoutWords.{body-words, plan-words}
 use Rattle.demands.proofs.Orders.{ascending-ordered, ordered-ascending}
 
 -- ---- what a plan lists, by its members and section by section
+ranks-fit : (l : List ℕ) → ((r : ℕ) → List·Memᴰ r l → r < 0x10000000) → Ordered (λ q r. q < r) l → RanksFit l
+ranks-fit l h o = record { fit = member-each FieldFits l h; rise = ordered-ascending 0 l (λ q m. omega arith) o }
+
 module _ (n : ℕ) where
   box-sided : (b : Box) → BoxFor n b → Sided n b
   box-sided b h = record {
@@ -40,8 +44,8 @@ module _ (n : ℕ) where
         let g = h .forbidden f m in
         record { device = g .0; box = box-sided (f .box) (g .1) };
     unsafe = member-each (Sided n) (p .unsafe) (λ b m. box-sided b (h .unsafe b m));
-    dead = member-each FieldFits (p .dead) (h .ranks);
-    rising = ordered-ascending 0 (p .dead) (λ q m. omega arith) (h .rising);
+    reached = ranks-fit (p .reached) (h .reached) (h .rising);
+    unreached = ranks-fit (p .unreached) (h .unreached) (h .unreached-rising);
   }
 
   pub lists-for : (p : Plan) → ListsFit n p → ListsFor n p
@@ -50,8 +54,10 @@ module _ (n : ℕ) where
         let g = each-member (DeviceSided n) (p .forbidden) (h .forbidden) f m in
         (g .device, box-for (f .box) (g .box));
     unsafe = λ b m. box-for b (each-member (Sided n) (p .unsafe) (h .unsafe) b m);
-    ranks = each-member FieldFits (p .dead) (h .dead);
-    rising = ascending-ordered 0 (p .dead) (h .rising);
+    reached = each-member FieldFits (p .reached) (h .reached .fit);
+    rising = ascending-ordered 0 (p .reached) (h .reached .rise);
+    unreached = each-member FieldFits (p .unreached) (h .unreached .fit);
+    unreached-rising = ascending-ordered 0 (p .unreached) (h .unreached .rise);
   }
 
   -- words up to END are a plan

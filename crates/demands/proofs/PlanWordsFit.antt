@@ -7,7 +7,7 @@ use Rattle.model.specs.Set.{Set}
 use Rattle.model.specs.Layout.{WellFormed, word, END, withEnd}
 use Rattle.model.specs.Box.{Box}
 use Rattle.model.specs.Forbidden.{Forbidden}
-use Rattle.model.specs.Plan.{planOf, DEAD-STATE, sideWords, forbiddenWords, unsafeWords, deadWords, planBody, planWords}
+use Rattle.model.specs.Plan.{planOf, DEAD-STATE, UNREACHED-STATE, sideWords, forbiddenWords, unsafeWords, rankWords, planBody, planWords}
 use Rattle.model.proofs.Each.{Each, each-at, each-append, each-map}
 use Rattle.model.proofs.Fits.{FieldFits, SideFits, Sided, DeviceSided}
 use Rattle.model.proofs.PlanFitting.{plan-fits, plan-length}
@@ -35,6 +35,9 @@ forbidden-fit n h (f ∷ fs) e = (
   each-append Fits (sideWords 0 (f .box)) (forbiddenWords fs) (sides-fit 0 (f .box) (e .0 .box .sides) (omega (arith, e .0 .box .count))) (forbidden-fit n h fs (e .1)),
 )
 
+ranks-fit : (kind : ℕ) → kind < 16 → (ranks : List ℕ) → Each FieldFits ranks → Each Fits (rankWords kind ranks)
+ranks-fit kind h = each-map FieldFits Fits (word kind) (λ r k. omega arith)
+
 -- all of them: the sections, and END
 all-fit : (s : Set) → WellFormed s → Each Fits (planWords (planOf s))
 unfolding planWords withEnd
@@ -43,13 +46,16 @@ all-fit s w =
     let f = plan-fits s w in
     let forbiddens = forbiddenWords (p .forbidden) in
     let unsafes = unsafeWords (p .unsafe) in
-    let deads = deadWords (p .dead) in
+    let reached = rankWords DEAD-STATE (p .reached) in
+    let others = rankWords UNREACHED-STATE (p .unreached) in
     each-append Fits (planBody p) (word END (length (planBody p)) ∷ [])
-    (each-append Fits (forbiddens ++ unsafes) deads
+    (each-append Fits (forbiddens ++ unsafes) (reached ++ others)
     (each-append Fits forbiddens unsafes
     (forbidden-fit (length (s .tasks)) (f .tasks) (p .forbidden) (f .lists .forbidden))
     (boxes-fit (length (s .tasks)) (f .tasks) (p .unsafe) (f .lists .unsafe)))
-    (each-map FieldFits Fits (word DEAD-STATE) (λ r h. omega arith) (p .dead) (f .lists .dead)))
+    (each-append Fits reached others
+    (ranks-fit DEAD-STATE (omega arith) (p .reached) (f .lists .reached .fit))
+    (ranks-fit UNREACHED-STATE (omega arith) (p .unreached) (f .lists .unreached .fit))))
     (omega (arith, plan-length s w, length-append (planBody p) (word END (length (planBody p)) ∷ [])), tt)
 
 pub plan-words-fit : (s : Set) → WellFormed s → (i : ℕ) → i < length (planWords (planOf s)) → getD (planWords (planOf s)) i 0 < 0x100000000

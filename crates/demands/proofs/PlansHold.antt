@@ -1,4 +1,4 @@
--- The five plans hold, by computing the definitions.
+-- The seven plans hold, by computing the definitions.
 use mathlib.Core.Path.{refl}
 use Rattle.model.specs.Below.{any, tabulate, maximum}
 use Rattle.model.specs.Set.{size}
@@ -8,9 +8,10 @@ use Rattle.model.specs.Hold.{heldTo, holdsFrom, holding, held as unitsHeld, per
 use Rattle.model.specs.Box.{inside, covered, firstBox}
 use Rattle.model.specs.Forbidden.{choose, prefixed, sidesOf, boxesOf, boxesOfAll, deviceBoxes, forbiddenFrom, forbidden}
 use Rattle.model.specs.Map.{stepsOnto, byte, lastBytes, bytes}
+use Rattle.model.specs.Reach.{steppedOnto, mark, firstMarks}
 use Rattle.model.specs.UnsafeBoxes.{getsBox, blockerLow, unsafeBox, lastUnsafe, unsafeBoxes}
 use Rattle.model.specs.Layout.{withEnd}
-use Rattle.model.specs.Plan.{ranksFrom, sideWords, forbiddenWords, unsafeWords, planWords}
+use Rattle.model.specs.Plan.{ranksFrom, keep, sideWords, forbiddenWords, unsafeWords, planWords}
 use Rattle.model.specs.Answer.{_then_, ifGiven}
 use Rattle.model.specs.Record.{mapFits}
 use Rattle.model.specs.Analysis.{planFits}
@@ -18,5 +19,5 @@ use Rattle.demands.specs.Terms.{times}
 use Rattle.demands.specs.Plans.{Plans}
 
 pub plans-hold : Plans
-unfolding any tabulate maximum size lastTask addAction heldAfter note outOfOrder fieldAllowed tooMany fault close readFrom read isEnd weight stateAt heldTo holdsFrom holding unitsHeld permitted inside covered firstBox choose prefixed sidesOf boxesOf boxesOfAll deviceBoxes forbiddenFrom forbidden stepsOnto byte lastBytes bytes getsBox blockerLow unsafeBox lastUnsafe unsafeBoxes withEnd ranksFrom sideWords forbiddenWords unsafeWords planWords _then_ ifGiven mapFits planFits times
-plans-hold = record { m-plan = refl; n-plan = refl; o-plan = refl; p-plan = refl; q-plan = refl }
+unfolding any tabulate maximum size lastTask addAction heldAfter note outOfOrder fieldAllowed tooMany fault close readFrom read isEnd weight stateAt heldTo holdsFrom holding unitsHeld permitted inside covered firstBox choose prefixed sidesOf boxesOf boxesOfAll deviceBoxes forbiddenFrom forbidden stepsOnto byte lastBytes bytes steppedOnto mark firstMarks getsBox blockerLow unsafeBox lastUnsafe unsafeBoxes withEnd ranksFrom keep sideWords forbiddenWords unsafeWords planWords _then_ ifGiven mapFits planFits times
+plans-hold = record { m-plan = refl; n-plan = refl; o-plan = refl; p-plan = refl; q-plan = refl; r-plan = refl; u-plan = refl }

@@ -14,9 +14,10 @@ use Rattle.model.specs.Hold.{heldTo, holdsFrom, holding, held as unitsHeld, per
 use Rattle.model.specs.Box.{inside, covered, firstBox}
 use Rattle.model.specs.Forbidden.{choose, prefixed, sidesOf, boxesOf, boxesOfAll, deviceBoxes, forbiddenFrom, forbidden}
 use Rattle.model.specs.Map.{stepsOnto, byte, lastBytes, bytes}
+use Rattle.model.specs.Reach.{steppedOnto, mark, firstMarks}
 use Rattle.model.specs.UnsafeBoxes.{getsBox, blockerLow, unsafeBox, lastUnsafe, unsafeBoxes}
 use Rattle.model.specs.Layout.{withEnd}
-use Rattle.model.specs.Plan.{planOf, ranksFrom, sideWords, forbiddenWords, unsafeWords, planWords}
+use Rattle.model.specs.Plan.{planOf, ranksFrom, keep, sideWords, forbiddenWords, unsafeWords, planWords}
 use Rattle.model.specs.Printed.{wordAt, wordsIn, wordsOf, toPrint, hexLine, linesOf, digits, codes, textOf, printed}
 use Rattle.model.proofs.FileWords.{too-many, not-whole, whole}
 use Rattle.model.proofs.Lists.{tabulate-cong}
@@ -85,7 +86,7 @@ module _ (bs : List ℕ) (w : Whole bs) where
     short-plan h = of-fours (given (planWords (planOf s))) (rw (e, le-ltb 16384 (planLength s) h)) ∙ each-line (planWords (planOf s))
 
 pub printing : Printing
-unfolding any tabulate maximum deviceOf size lastTask addAction heldAfter note outOfOrder fieldAllowed tooMany fault close readFrom read isEnd sum weight rank stateAt heldTo holdsFrom holding unitsHeld permitted inside covered firstBox choose prefixed sidesOf boxesOf boxesOfAll deviceBoxes forbiddenFrom forbidden stepsOnto byte lastBytes bytes getsBox blockerLow unsafeBox lastUnsafe unsafeBoxes withEnd ranksFrom sideWords forbiddenWords unsafeWords planWords _then_ wordAt wordsOf toPrint linesOf digits codes textOf lines flatten
+unfolding any tabulate maximum deviceOf size lastTask addAction heldAfter note outOfOrder fieldAllowed tooMany fault close readFrom read isEnd sum weight rank stateAt heldTo holdsFrom holding unitsHeld permitted inside covered firstBox choose prefixed sidesOf boxesOf boxesOfAll deviceBoxes forbiddenFrom forbidden stepsOnto byte lastBytes bytes steppedOnto mark firstMarks getsBox blockerLow unsafeBox lastUnsafe unsafeBoxes withEnd ranksFrom keep sideWords forbiddenWords unsafeWords planWords _then_ wordAt wordsOf toPrint linesOf digits codes textOf lines flatten
 printing = record {
   too-many = λ bs h. of-none bs 2 4096 (too-many bs h);
   not-words = λ bs h f. of-none bs 15 (length bs / 4) (not-whole bs h f);

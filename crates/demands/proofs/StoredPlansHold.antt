@@ -2,7 +2,7 @@
 use mathlib.Core.Path.{refl}
 use Rattle.model.specs.Answer.{_then_}
 use Rattle.model.specs.Box.{inside}
-use Rattle.model.specs.StoredPlan.{isSide, mayFollow, inLayout, scanWord, scanFrom, firstOf, locationOf, locate}
+use Rattle.model.specs.StoredPlan.{isSide, isRank, mayFollow, inLayout, scanWord, scanFrom, firstOf, locationOf, locate}
 use Rattle.model.proofs.Located.{accepted}
 use Rattle.demands.specs.StoredPlans.{Questions, StoredPlans}
 use Rattle.demands.proofs.ExamplesHold.{examples-hold}
@@ -13,7 +13,7 @@ use Rattle.demands.proofs.AgreesHolds.{agrees-holds}
 
 -- each question by computing the definitions, on the words of a's plan
 questions-hold : Questions
-unfolding _then_ inside isSide mayFollow inLayout scanWord scanFrom firstOf locationOf locate
+unfolding _then_ inside isSide isRank mayFollow inLayout scanWord scanFrom firstOf locationOf locate
 questions-hold =
     let plan = examples-hold .a-plan in
     record {
@@ -40,6 +40,14 @@ questions-hold =
       high-device = refl;
       unsafe-field = refl;
       after-rank = refl;
+      lower-rank = refl;
+      equal-rank = refl;
+      only-unreached = refl;
+      same-unreached = refl;
+      falling-unreached = refl;
+      late-rank = refl;
+      after-unreached = refl;
+      unknown-kind = refl;
     }
 
 pub stored-plans-hold : StoredPlans

@@ -16,12 +16,14 @@ unfoldable pub sidesFrom : ℕ → Box → List ℕ
 sidesFrom t [] = []
 sidesFrom t (i ∷ b) = (0x80000000 + t * 0x10000 + i .low * 0x100 + i .high) ∷ sidesFrom (suc t) b
 
--- each forbidden box as kind 6, with the device as field, and each unsafe box as kind 7, with field 0, its sides behind it; then kind 9 for each dead state, with the rank as field
+-- each forbidden box as kind 6, with the device as field, and each unsafe box as kind 7, with field 0, its sides behind it; then kind 9 for each dead state that is reached, kind A
+-- for each of the others, with the rank as field
 abbrev pub listOf : Plan → List ℕ
 listOf p =
     flatten (map (λ f. (0x60000000 + f .device) ∷ sidesFrom 0 (f .box)) (p .forbidden))
     ++ flatten (map (λ b. 0x70000000 ∷ sidesFrom 0 b) (p .unsafe))
-    ++ map (λ r. 0x90000000 + r) (p .dead)
+    ++ map (λ r. 0x90000000 + r) (p .reached)
+    ++ map (λ r. 0xA0000000 + r) (p .unreached)
 
 -- how many words the plan of a set has
 abbrev pub planLength : Set → ℕ
@@ -32,7 +34,7 @@ pub record OfAnalysis (words : List ℕ) (s : Set) : Type 0 where
   -- the map has a byte a state; the plan has a header and a word a task for each box, a word for each dead state, and END
   pub map-length : length (mapOf s) ≡ size (lengthsOf s)
   pub plan-length : planLength s
-      ≡ (length (planOf s .forbidden) + length (planOf s .unsafe)) * (1 + length (s .tasks)) + length (planOf s .dead) + 1
+      ≡ (length (planOf s .forbidden) + length (planOf s .unsafe)) * (1 + length (s .tasks)) + length (planOf s .reached) + length (planOf s .unreached) + 1
   -- a map slice shorter than the grid brings 13 with the grid, and both slices stay as they were
   pub map-short : (map plan : List ℕ) → length map < size (lengthsOf s)
       → analyse words map plan ≡ record { answer = refused 13 (size (lengthsOf s)); map = map; plan = plan }

@@ -1,8 +1,8 @@
 -- Demand 2: the reader accepts the sets of the layout and no others; the forbidden boxes are those of the published rule, and a state lies in one exactly when
--- some device has more holders than its capacity; dead states are listed once each, ascending.
+-- some device has more holders than its capacity; dead states are listed once each, ascending, those apart to which no allowed steps lead from the start.
 use Prim.Native.Nat.{ℕ, _<_}
 use mathlib.Core.Path.{_≡_}
-use mathlib.Core.Logic.{_↔_}
+use mathlib.Core.Logic.{_↔_, _⊎_}
 use mathlib.Core.Bool.{true}
 use mathlib.Core.List.{List, map, List·Memᴰ}
 use Rattle.model.specs.Answer.{given}
@@ -16,7 +16,7 @@ use Rattle.model.specs.Forbidden.{forbidden}
 use Rattle.model.specs.Plan.{unsafeOf, Plan, planOf, planFrom}
 use Rattle.model.specs.Analysis.{analyse}
 use Rattle.demands.specs.Terms.{Ordered}
-use Rattle.demands.specs.MapDemand.{IsDead}
+use Rattle.demands.specs.MapDemand.{IsDead, IsReached}
 
 -- first part: the sets of the layout and no others
 pub record LayoutExact : Type 0 where
@@ -27,6 +27,13 @@ pub record LayoutExact : Type 0 where
   -- well-formed sets with equal words are equal
   pub one-set : (s r : Set) → WellFormed s → WellFormed r → encode s ≡ encode r → s ≡ r
 
+-- rank r is that of a dead state of the set s; and of one that is reached
+abbrev pub DeadRank : Set → ℕ → Type 0
+DeadRank s r = (r < size (lengthsOf s)) × IsDead s (stateAt (lengthsOf s) r)
+
+abbrev pub ReachedRank : Set → ℕ → Type 0
+ReachedRank s r = IsReached s (stateAt (lengthsOf s) r)
+
 -- second and third part, of the plan p for the set s
 pub record PlanExact (s : Set) (p : Plan) : Type 0 where
   -- the forbidden boxes are those of the set, each with its device: `ForbiddenRule` says which they are, and in which order
@@ -35,9 +42,15 @@ pub record PlanExact (s : Set) (p : Plan) : Type 0 where
   pub exact : (x : State) → InGrid (lengthsOf s) x → (covered (map (λ f. f .box) (p .forbidden)) x ≡ true) ↔ Overfull s x
   -- the unsafe boxes are those of the set, in the order made: `UnsafeRule`
   pub made : p .unsafe ≡ unsafeOf s
-  -- the dead states are listed by strictly rising rank, and these are all
-  pub rising : Ordered (λ q r. q < r) (p .dead)
-  pub listed : (r : ℕ) → List·Memᴰ r (p .dead) ↔ ((r < size (lengthsOf s)) × IsDead s (stateAt (lengthsOf s) r))
+  -- kind 9 lists, by strictly rising rank, the dead states to which allowed steps lead from the start
+  pub rising : Ordered (λ q r. q < r) (p .reached)
+  pub listed : (r : ℕ) → List·Memᴰ r (p .reached) ↔ (DeadRank s r × ReachedRank s r)
+  -- kind A lists, by strictly rising rank too, the others
+  pub others-rising : Ordered (λ q r. q < r) (p .unreached)
+  pub others-listed : (r : ℕ) → List·Memᴰ r (p .unreached) ↔ (DeadRank s r × (ReachedRank s r → ⊥))
+  -- so each dead state stands in one of the two, and none in both
+  pub in-one : (r : ℕ) → DeadRank s r → List·Memᴰ r (p .reached) ⊎ List·Memᴰ r (p .unreached)
+  pub not-in-both : (r : ℕ) → List·Memᴰ r (p .reached) → List·Memᴰ r (p .unreached) → ⊥
 
 -- demand 2
 pub record Demand2 : Type 0 where

@@ -7,7 +7,7 @@ use Rattle.model.specs.Answer.{Answer, given, refused}
 use Rattle.model.specs.Set.{Set, claim, release}
 use Rattle.model.specs.Read.{read}
 use Rattle.model.specs.Map.{mapOf}
-use Rattle.model.specs.Plan.{ranksFrom, unsafeOf, deadOf}
+use Rattle.model.specs.Plan.{ranksFrom, unsafeOf, deadOf, planOf, planWords}
 use Rattle.model.specs.Analysis.{Analysed, analyse}
 use Rattle.model.specs.Record.{Record, fresh}
 use Rattle.model.specs.Broker.{granted, busy, held, bids, bid, afterCalls, Bid}
@@ -75,9 +75,12 @@ pub record Examples : Type 0 where
   -- c's route from (0,1)
   pub c-answer : route a mapA (recordA 0 1 0) (replicate 7 0) .answer ≡ given 7
   pub c-route : route a mapA (recordA 0 1 0) (replicate 7 0) .route ≡ 1 ∷ 1 ∷ 0 ∷ 1 ∷ 0 ∷ 0 ∷ 0 ∷ []
-  -- d's unsafe boxes, dead rank and counts; its unsafe states are 5 of byte 2 and the dead one
+  -- d's unsafe boxes, dead rank, plan and counts; its unsafe states are 5 of byte 2 and the dead one
   pub d-unsafe : unsafeOf d ≡ (2 to 3 ∷ 1 to 3 ∷ []) ∷ (1 to 1 ∷ 1 to 1 ∷ []) ∷ []
   pub d-dead : deadOf d ≡ 24 ∷ []
+  pub d-plan : planWords (planOf d)
+      ≡ 0x60000000 ∷ 0x80000205 ∷ 0x80010404 ∷ 0x60000001 ∷ 0x80000404 ∷ 0x80010105 ∷ 0x60000002 ∷ 0x80000102 ∷ 0x80010202
+      ∷ 0x70000000 ∷ 0x80000203 ∷ 0x80010103 ∷ 0x70000000 ∷ 0x80000101 ∷ 0x80010101 ∷ 0x90000018 ∷ 0x50000010 ∷ []
   pub d-counts : map (count d) (0 ∷ 1 ∷ 2 ∷ 3 ∷ []) ≡ 33 ∷ 10 ∷ 5 ∷ 1 ∷ []
   -- e has one forbidden state and no unsafe one
   pub e-counts : map (count e) (0 ∷ 1 ∷ 2 ∷ 3 ∷ []) ≡ 26 ∷ 1 ∷ 0 ∷ 0 ∷ []

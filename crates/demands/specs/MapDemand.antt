@@ -5,9 +5,9 @@ use mathlib.Core.Logic.{_↔_}
 use mathlib.Core.Bool.{true, false}
 use mathlib.Core.List.{List, [], _∷_}
 use Rattle.model.specs.Set.{Set, lengthsOf, at}
-use Rattle.model.specs.State.{State, InGrid, next, rank}
+use Rattle.model.specs.State.{State, InGrid, next, start, rank}
 use Rattle.model.specs.Hold.{permitted}
-use Rattle.model.specs.Run.{CanEnd, Dead}
+use Rattle.model.specs.Run.{CanEnd, Reached, Dead}
 
 module _ (s : Set) where
   -- allowed steps of these tasks, in this order, lead from x to y: each adds 1 to an unfinished task's position, and the new state is permitted
@@ -18,6 +18,11 @@ module _ (s : Set) where
   -- some sequence of allowed steps, the empty one counted, reaches the end
   abbrev pub ReachesEnd : State → Type 0
   ReachesEnd x = (ts : List ℕ) × Leads x ts (lengthsOf s)
+
+  -- reached: the start, and each state to which an allowed step leads from a reached one
+  pub data IsReached : State → Type 0 where
+    no-step-made : IsReached (start (lengthsOf s))
+    one-step-more : {x : State} (t : ℕ) → IsReached x → at x t < at (lengthsOf s) t → permitted s (next x t) ≡ true → IsReached (next x t)
 
   -- dead: permitted, not the end, no allowed step
   pub record IsDead (x : State) : Type 0 where
@@ -46,6 +51,11 @@ pub record MapDemand : Type 0 where
   -- the definitions of Run say the same
   pub can-end : (s : Set) (x : State) → InGrid (lengthsOf s) x → CanEnd (lengthsOf s) (permitted s) x ↔ ReachesEnd s x
   pub dead : (s : Set) (x : State) → InGrid (lengthsOf s) x → Dead (lengthsOf s) (permitted s) x ↔ IsDead s x
+  pub reached : (s : Set) (x : State) → Reached (lengthsOf s) (permitted s) x ↔ IsReached s x
+  -- reached are the states to which some sequence of allowed steps leads from the start
+  pub reached-by : (s : Set) (x : State) → IsReached s x ↔ ((ts : List ℕ) × Leads s (start (lengthsOf s)) ts x)
   -- a dead state is unsafe, and from every unsafe state allowed steps lead to a dead one
   pub dead-unsafe : (s : Set) (x : State) → InGrid (lengthsOf s) x → IsDead s x → IsUnsafe s x
   pub unsafe-dead : (s : Set) (x : State) → InGrid (lengthsOf s) x → IsUnsafe s x → (ts : List ℕ) × (y : State) × Leads s x ts y × IsDead s y
+  -- where no dead state is reached, every reached state is open
+  pub none-reached : (s : Set) → ((y : State) → IsReached s y → IsDead s y → ⊥) → (x : State) → IsReached s x → IsOpen s x

@@ -22,12 +22,14 @@ pub record BoxFor (n : ℕ) (b : Box) : Type 0 where
   pub every-task : length b ≡ n
   pub bounds : (t : ℕ) → t < n → (side b t .low ≤ side b t .high) × (side b t .high < 256)
 
--- what a plan for n tasks lists: devices below 16, boxes for n tasks, ranks of 28 bits that strictly rise
+-- what a plan for n tasks lists: devices below 16, boxes for n tasks, and of each kind ranks of 28 bits that strictly rise
 pub record ListsFor (n : ℕ) (p : Plan) : Type 0 where
   pub forbidden : (f : Forbidden) → List·Memᴰ f (p .forbidden) → (f .device < 16) × BoxFor n (f .box)
   pub unsafe : (b : Box) → List·Memᴰ b (p .unsafe) → BoxFor n b
-  pub ranks : (r : ℕ) → List·Memᴰ r (p .dead) → r < 0x10000000
-  pub rising : Ordered (λ q r. q < r) (p .dead)
+  pub reached : (r : ℕ) → List·Memᴰ r (p .reached) → r < 0x10000000
+  pub rising : Ordered (λ q r. q < r) (p .reached)
+  pub unreached : (r : ℕ) → List·Memᴰ r (p .unreached) → r < 0x10000000
+  pub unreached-rising : Ordered (λ q r. q < r) (p .unreached)
 
 -- a plan of the layout for n tasks: END's field, of 28 bits too, holds the number of the words before it
 pub record PlanFor (n : ℕ) (p : Plan) : Type 0 where
@@ -176,6 +178,16 @@ pub record Questions : Type 0 where
   pub high-device : locate (asked 1 1) (0x60000010 ∷ []) 2 ≡ refused 23 0
   pub unsafe-field : locate (asked 1 1) (0x70000001 ∷ []) 2 ≡ refused 23 0
   pub after-rank : locate (asked 1 1) (0x90000006 ∷ 0x70000000 ∷ []) 2 ≡ refused 23 1
+  -- kind A after kind 9, whatever ranks that has, and where there is none
+  pub lower-rank : locate (asked 1 1) (0x90000006 ∷ 0xA0000005 ∷ 0x50000002 ∷ []) 2 ≡ given in-neither
+  pub equal-rank : locate (asked 1 1) (0x90000006 ∷ 0xA0000006 ∷ 0x50000002 ∷ []) 2 ≡ given in-neither
+  pub only-unreached : locate (asked 1 1) (0xA0000000 ∷ 0xA0000001 ∷ 0x50000002 ∷ []) 2 ≡ given in-neither
+  -- kind A with the same rank twice, and with one that falls; kind 9 and a box after it; kind B
+  pub same-unreached : locate (asked 1 1) (0x90000001 ∷ 0xA0000006 ∷ 0xA0000006 ∷ []) 2 ≡ refused 23 2
+  pub falling-unreached : locate (asked 1 1) (0xA0000006 ∷ 0xA0000005 ∷ []) 2 ≡ refused 23 1
+  pub late-rank : locate (asked 1 1) (0xA0000005 ∷ 0x90000006 ∷ []) 2 ≡ refused 23 1
+  pub after-unreached : locate (asked 1 1) (0xA0000006 ∷ 0x70000000 ∷ []) 2 ≡ refused 23 1
+  pub unknown-kind : locate (asked 1 1) (0xB0000006 ∷ []) 2 ≡ refused 23 0
 
 pub record StoredPlans : Type 0 where
   pub layout : PlanLayout

@@ -15,11 +15,25 @@ use Rattle.model.specs.State.{State}
 use Rattle.model.specs.Layout.{word, kindOf, END, withEnd}
 use Rattle.model.specs.Box.{Box, inside, covered}
 use Rattle.model.specs.Forbidden.{boxes}
-use Rattle.model.specs.Plan.{Plan, FORBIDDEN-BOX, UNSAFE-BOX, SIDE, DEAD-STATE, sideWords, forbiddenWords, unsafeWords, deadWords, planBody, planWords}
-use Rattle.model.specs.StoredPlan.{boxOf, firstOf}
-use Rattle.model.proofs.Bools.{by-bool, by-cases, true-not-false, and-true, or-false}
-use Rattle.model.proofs.Each.{Each, each-map, each-mono}
-use Rattle.model.proofs.Fits.{FieldFits, SideFits, Sided, DeviceSided, PlanFits}
+use Rattle.model.specs.Plan.{
+  Plan,
+  FORBIDDEN-BOX,
+  UNSAFE-BOX,
+  SIDE,
+  DEAD-STATE,
+  UNREACHED-STATE,
+  sideWords,
+  forbiddenWords,
+  unsafeWords,
+  rankWords,
+  deadWords,
+  planBody,
+  planWords,
+}
+use Rattle.model.specs.StoredPlan.{isRank, boxOf, firstOf}
+use Rattle.model.proofs.Bools.{by-bool, by-cases, true-not-false, and-true, or-false, eqb-flip}
+use Rattle.model.proofs.Each.{Each, each-append, each-map, each-mono}
+use Rattle.model.proofs.Fits.{FieldFits, SideFits, Sided, DeviceSided, ListsFit, PlanFits}
 use Rattle.model.proofs.Words.{kind-word}
 use Rattle.model.proofs.PlanBack.{side-kind, box-back, length-plan}
 use Rattle.model.proofs.PlanCount.{sides-length}
@@ -27,13 +41,15 @@ use Rattle.model.proofs.PlanCount.{sides-length}
 -- a kind of box: not that of a side, of a rank or of END
 pub record BoxKind (kind : ℕ) : Type 0 where
   pub not-side : eqb SIDE kind ≡ false
-  pub not-rank : eqb DEAD-STATE kind ≡ false
+  pub not-rank : isRank kind ≡ false
   pub not-end : eqb END kind ≡ false
 
 pub forbidden-kind : BoxKind FORBIDDEN-BOX
+unfolding isRank
 forbidden-kind = record { not-side = refl; not-rank = refl; not-end = refl }
 
 pub unsafe-kind : BoxKind UNSAFE-BOX
+unfolding isRank
 unsafe-kind = record { not-side = refl; not-rank = refl; not-end = refl }
 
 -- a box put before a list of boxes
@@ -126,8 +142,16 @@ module _ (n kind : ℕ) (x : State) where
     sides-other t [] l h = tt
     sides-other t (i ∷ b) l h = (rw (side-kind t i (omega arith) (h .0)) (of-box .not-side), sides-other (suc t) b (omega arith) (h .1))
 
-    ranks-other : (rs : List ℕ) → Each FieldFits rs → Each Other (deadWords rs)
-    ranks-other = each-map FieldFits Other (word DEAD-STATE) (λ r h. rw (kind-word DEAD-STATE r h) (of-box .not-rank))
+    ranks-other : (rank : ℕ) → eqb kind rank ≡ false → (rs : List ℕ) → Each FieldFits rs → Each Other (rankWords rank rs)
+    ranks-other rank e = each-map FieldFits Other (word rank) (λ r h. rw (kind-word rank r h, eqb-flip rank kind) e)
+
+    dead-other : (p : Plan) → ListsFit n p → Each Other (deadWords p)
+    unfolding isRank
+    dead-other p h =
+        let (not-reached, not-unreached) = or-false (eqb kind DEAD-STATE) (eqb kind UNREACHED-STATE) (of-box .not-rank) in
+        each-append Other (rankWords DEAD-STATE (p .reached)) (rankWords UNREACHED-STATE (p .unreached))
+        (ranks-other DEAD-STATE not-reached (p .reached) (h .reached .fit))
+        (ranks-other UNREACHED-STATE not-unreached (p .unreached) (h .unreached .fit))
 
     -- a section of boxes, each behind a first word of kind k
     module _ {A : Type 0} (header : A → ℕ) (box : A → Box) (words : List A → List ℕ) (empty : words [] ≡ [])
@@ -158,7 +182,7 @@ module _ (n kind : ℕ) (x : State) where
         let lists = h .lists in
         let f = forbiddenWords (p .forbidden) in
         let u = unsafeWords (p .unsafe) in
-        let d = deadWords (p .dead) in
+        let d = deadWords p in
         let count = length (planBody p) in
         let end = word END count ∷ [] in
         let last : kindOf (word END count) ≡ END = kind-word END count (omega (arith, length-plan p, h .words)) in
@@ -170,7 +194,7 @@ module _ (n kind : ℕ) (x : State) where
               (u ++ (d ++ end)),
           section-some (λ b. word UNSAFE-BOX 0) (λ b. b) unsafeWords refl (λ b l. refl) UNSAFE-BOX (h .tasks) (p .unsafe)
               (each-mono (Sided n) _ (λ b k. (refl, k)) (p .unsafe) (lists .unsafe)) (d ++ end),
-          skipped d end (ranks-other (p .dead) (lists .dead)),
+          skipped d end (dead-other p lists),
           last,
           of-box .not-end,
           map-id (p .unsafe),

@@ -1,6 +1,7 @@
 -- What fits the words of a plan: fields, sides, boxes, and whole plans.
 use Prim.Native.Nat.{ℕ, _<_, _≤_}
 use mathlib.Core.Path.{_≡_}
+use mathlib.Core.List.{List}
 use lib.ListN.{length}
 use Rattle.model.specs.Hold.{Interval}
 use Rattle.model.specs.Box.{Box}
@@ -26,12 +27,17 @@ pub record DeviceSided (n : ℕ) (f : Forbidden) : Type 0 where
   pub device : f .device < 16
   pub box : Sided n (f .box)
 
--- what a plan for n tasks lists, section by section: numbers that fit the fields of its words, and ranks that rise
+-- ranks that fit a word's field, and rise
+pub record RanksFit (ranks : List ℕ) : Type 0 where
+  pub fit : Each FieldFits ranks
+  pub rise : AscendingFrom 0 ranks
+
+-- what a plan for n tasks lists, section by section
 pub record ListsFit (n : ℕ) (p : Plan) : Type 0 where
   pub forbidden : Each (DeviceSided n) (p .forbidden)
   pub unsafe : Each (Sided n) (p .unsafe)
-  pub dead : Each FieldFits (p .dead)
-  pub rising : AscendingFrom 0 (p .dead)
+  pub reached : RanksFit (p .reached)
+  pub unreached : RanksFit (p .unreached)
 
 -- a plan for n tasks, each of which has a byte in a side's word, and few enough words for END's field
 pub record PlanFits (n : ℕ) (p : Plan) : Type 0 where

@@ -38,10 +38,12 @@ pub mod TableOrder
 pub mod UnsafeBox
 pub mod UnsafeSound
 pub mod UnsafeComplete
--- the map: each byte, the whole, and the ranks of a byte
+-- the map: each byte, the whole, the ranks of a byte, and which states are reached
 pub mod Byte
 pub mod MapExact
+pub mod Keep
 pub mod DeadRanks
+pub mod ReachExact
 pub mod NoUnsafe
 -- the plan by sections: read back, counted, fitting
 pub mod PlanBack
@@ -49,6 +51,7 @@ pub mod PlanCount
 pub mod PlanFitting
 pub mod Outcome
 -- stored plans
+pub mod PlanKinds
 pub mod PlanScans
 pub mod PlanScanned
 pub mod FirstBoxes

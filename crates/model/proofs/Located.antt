@@ -13,11 +13,12 @@ use Rattle.model.specs.Answer.{given, refused, _then_}
 use Rattle.model.specs.Set.{at}
 use Rattle.model.specs.State.{State}
 use Rattle.model.specs.Layout.{kindOf, END}
-use Rattle.model.specs.Plan.{FORBIDDEN-BOX, UNSAFE-BOX, SIDE, DEAD-STATE}
-use Rattle.model.specs.StoredPlan.{PlanScan, isSide, nothingScanned, inLayout, scanWord, scanFrom, firstOf, Location, locationOf, locate}
+use Rattle.model.specs.Plan.{FORBIDDEN-BOX, UNSAFE-BOX, SIDE}
+use Rattle.model.specs.StoredPlan.{PlanScan, isSide, isRank, nothingScanned, inLayout, scanWord, scanFrom, firstOf, Location, locationOf, locate}
 use Rattle.model.proofs.Bools.{by-bool, true-not-false, and-true, eqb-flip}
 use Rattle.model.proofs.Answers.{refused-given, then-given}
-use Rattle.model.proofs.PlanScanned.{by-header, kind-told, word-accepted}
+use Rattle.model.proofs.PlanKinds.{rank-only, by-header, kind-told}
+use Rattle.model.proofs.PlanScanned.{word-accepted}
 use Rattle.model.proofs.FirstBoxes.{BoxKind}
 
 -- the task count is 1 to 8, and the words are scanned without a fault
@@ -84,7 +85,7 @@ module _ (n : ℕ) where
     box-scanned s i w h k =
         by-bool (ltb (s .sides) n)
         (λ l. absurd (no-side (s .sides) w (ltb-true (s .sides) n l) (rw l at (and-true (not (s .ended)) _ h .1)) k))
-        (λ l. rw (l, k, eqb-flip kind END, of-box .not-end, eqb-flip kind DEAD-STATE, of-box .not-rank) (refl, refl))
+        (λ l. rw (l, k, eqb-flip kind END, of-box .not-end, of-box .not-rank) (refl, refl))
 
     -- and its n sides follow
     pub box-room : (s : PlanScan) (i : ℕ) (ws : List ℕ) → scanFrom n s i ws ≡ given tt
@@ -101,7 +102,7 @@ module _ (n : ℕ) (few : n ≤ 8) (x : State) where
   -- behind an unsafe box or a rank a word begins no forbidden box, and leaves it so
   later-kind : (s : PlanScan) (i w : ℕ) → FORBIDDEN-BOX < s .section → inLayout n s i w ≡ true
       → (FORBIDDEN-BOX < scanWord n s w .section) × (eqb (kindOf w) FORBIDDEN-BOX ≡ false)
-  unfolding inLayout scanWord
+  unfolding isRank inLayout scanWord
   later-kind s i w h e =
       let q = and-true (not (s .ended)) _ e .1 in
       by-bool (ltb (s .sides) n)
@@ -111,7 +112,7 @@ module _ (n : ℕ) (few : n ≤ 8) (x : State) where
       (λ k f. rw (l, k) (h, refl))
       (λ k late f. absurd (omega arith))
       (λ k late f. rw (l, k) (omega arith, refl))
-      (λ k f. rw (l, k) (omega arith, refl)))
+      (λ k late f. let (not-end, not-forbidden, not-unsafe) = rank-only (kindOf w) k in rw (l, not-end, k) (omega arith, not-forbidden)))
 
   pub none-after : (s : PlanScan) (i : ℕ) (ws : List ℕ) → FORBIDDEN-BOX < s .section → scanFrom n s i ws ≡ given tt → firstOf n FORBIDDEN-BOX x i ws ≡ none
   unfolding firstOf

@@ -1,13 +1,13 @@
 -- Words scanned without a fault are those of a plan of the layout; words before a fault go on to one's boxes and ranks.
 use Prim.Native.Nat.{ℕ, zero, suc, _+_, _-_, _<_, _≤_}
 use native.Mathlib.Omega.{arith}
-use mathlib.Core.Path.{_≡_, refl, sym, ap, ap₂, _∙_}
+use mathlib.Core.Path.{_≡_, refl, sym, ap, ap₂, subst, _∙_}
 use mathlib.Core.Logic.{_⊎_, inl, inr}
 use mathlib.Core.Bool.{true, false, not}
 use mathlib.Core.List.{List, [], _∷_, _++_, append-assoc, append-nil}
 use lib.ListN.{length, take}
-use lib.Dec.{ltb, leb, eqb}
-use borrow.Author.Tests.{ltb-true, ltb-false, leb-true, eqb-true, not-true}
+use lib.Dec.{ltb}
+use borrow.Author.Tests.{ltb-true, ltb-false, not-true}
 use Rattle.model.specs.Answer.{given, refused}
 use Rattle.model.specs.Below.{tabulate}
 use Rattle.model.specs.Layout.{word, kindOf, fieldOf, END, withEnd}
@@ -18,65 +18,49 @@ use Rattle.model.specs.Plan.{
   Plan,
   FORBIDDEN-BOX,
   UNSAFE-BOX,
-  SIDE,
   DEAD-STATE,
-  sideWord,
+  UNREACHED-STATE,
   sideWords,
   forbiddenWords,
   unsafeWords,
+  rankWords,
   deadWords,
   planBody,
   planWords,
   sideOf,
-  emptyPlan,
+  withForbidden,
 }
-use Rattle.model.specs.StoredPlan.{PlanScan, isSide, nothingScanned, mayFollow, inLayout, scanWord, scanFrom}
+use Rattle.model.specs.StoredPlan.{PlanScan, isSide, isRank, nothingScanned, inLayout, scanWord, scanFrom}
 use Rattle.model.proofs.Bools.{by-bool, by-cases, and-true}
 use Rattle.model.proofs.Lists.{empty, length-tabulate}
 use Rattle.model.proofs.Each.{Each, each-tabulate}
 use Rattle.model.proofs.Answers.{given-refused, refused-given, refused-number, refused-place}
-use Rattle.model.proofs.Fits.{FieldFits, SideFits, ListsFit}
-use Rattle.model.proofs.PlanBack.{side-kind}
+use Rattle.model.proofs.Fits.{FieldFits, SideFits, RanksFit, ListsFit}
 use Rattle.model.proofs.PlanCount.{sides-length}
 use Rattle.model.proofs.Words.{word-parts}
+use Rattle.model.proofs.PlanKinds.{by-rank, rank-only, by-header, side-told}
 use Rattle.model.proofs.PlanScans.{placed}
-
--- a word that may follow: END at its index, a header of either kind, or a rank
-pub by-header : {G : Type 0} (s : PlanScan) (i w : ℕ) → mayFollow s i w ≡ true
-    → (kindOf w ≡ END → fieldOf w ≡ i → G)
-    → (kindOf w ≡ FORBIDDEN-BOX → s .section ≤ FORBIDDEN-BOX → fieldOf w < 16 → G)
-    → (kindOf w ≡ UNSAFE-BOX → s .section ≤ UNSAFE-BOX → fieldOf w ≡ 0 → G)
-    → (kindOf w ≡ DEAD-STATE → s .least ≤ fieldOf w → G)
-    → G
-unfolding mayFollow
-by-header s i w e end forbidden unsafe rank =
-    let k = kindOf w in
-    let f = fieldOf w in
-    by-bool (eqb k END) (λ q. end (eqb-true k END q) (eqb-true f i (rw q at e))) λ q₅.
-    let t = and-true _ _ (rw q₅ at e) in
-    let late = leb-true (s .section) k (t .0) in
-    by-bool (eqb k FORBIDDEN-BOX)
-    (λ q. let z = eqb-true k FORBIDDEN-BOX q in forbidden z (omega arith) (ltb-true f 16 (rw q at (t .1)))) λ q₆.
-    by-bool (eqb k UNSAFE-BOX)
-    (λ q. let z = eqb-true k UNSAFE-BOX q in unsafe z (omega arith) (eqb-true f 0 (rw (q₆, q) at (t .1)))) λ q₇.
-    let r = and-true (eqb k DEAD-STATE) _ (rw (q₆, q₇) at (t .1)) in
-    rank (eqb-true k DEAD-STATE (r .0)) (leb-true (s .least) f (r .1))
-
--- a side's word gives the side back
-pub side-told : (t w : ℕ) → isSide t w ≡ true → (w ≡ sideWord t (sideOf w)) × SideFits (sideOf w)
-unfolding isSide
-side-told t w e =
-    let v = sideOf w in
-    let q = and-true (eqb w (sideWord t v)) (leb (v .low) (v .high)) e in
-    (eqb-true w (sideWord t v) (q .0), (leb-true (v .low) (v .high) (q .1), omega arith))
-
--- and is of its kind
-pub kind-told : (t w : ℕ) → t < 256 → isSide t w ≡ true → kindOf w ≡ SIDE
-kind-told t w l e = let (same, fits) = side-told t w e in ap kindOf same ∙ side-kind t (sideOf w) l fits
 
 -- the field of any word is one
 field-fits : (w : ℕ) → FieldFits (fieldOf w)
 field-fits w = omega arith
+
+-- ranks that may come in the section of kind k, of which those of that kind are at least l
+pub record RanksAfter (k l : ℕ) (reached unreached : List ℕ) : Type 0 where
+  pub no-reached : DEAD-STATE < k → reached ≡ []
+  pub reached-above : k ≡ DEAD-STATE → AscendingFrom l reached
+  pub unreached-above : k ≡ UNREACHED-STATE → AscendingFrom l unreached
+
+-- in the sections of boxes any ranks may
+after-boxes : (k l : ℕ) (q u : List ℕ) → k ≤ UNSAFE-BOX → RanksAfter k l q u
+after-boxes k l q u h = record { no-reached = λ e. absurd (omega arith); reached-above = λ e. absurd (omega arith); unreached-above = λ e. absurd (omega arith) }
+
+-- none, and one more
+no-ranks : RanksFit []
+no-ranks = record { fit = tt; rise = tt }
+
+more-ranks : (d : ℕ) (ranks : List ℕ) → FieldFits d → RanksFit ranks → AscendingFrom (suc d) ranks → RanksFit (d ∷ ranks)
+more-ranks d ranks h r a = record { fit = (h, r .fit); rise = (omega arith, a) }
 
 -- a header's sides before three sections go to the first of them
 regroup : (a b c d : List ℕ) → a ++ (b ++ c ++ d) ≡ a ++ b ++ c ++ d
@@ -107,7 +91,7 @@ module _ (n : ℕ) where
     pub lists : ListsFit n plan
     pub no-forbidden : FORBIDDEN-BOX < s .section → plan .forbidden ≡ []
     pub no-unsafe : UNSAFE-BOX < s .section → plan .unsafe ≡ []
-    pub above : DEAD-STATE ≤ s .section → AscendingFrom (s .least) (plan .dead)
+    pub ranks : RanksAfter (s .section) (s .least) (plan .reached) (plan .unreached)
 
   -- ---- one word put before
   -- a side
@@ -125,23 +109,35 @@ module _ (n : ℕ) where
         lists = r .lists;
         no-forbidden = r .no-forbidden;
         no-unsafe = r .no-unsafe;
-        above = r .above;
+        ranks = r .ranks;
       }
+
+  -- the missing sides, and ranks that may come
+  rest-ranks : (s : PlanScan) (b : Box) (q u : List ℕ) → length b ≡ n - s .sides → Each SideFits b → RanksFit q → RanksFit u
+      → RanksAfter (s .section) (s .least) q u → Rest s (sideWords (s .sides) b ++ (rankWords DEAD-STATE q ++ rankWords UNREACHED-STATE u))
+  unfolding forbiddenWords unsafeWords
+  rest-ranks s b q u e h f g r = record {
+    sides = b;
+    plan = record { forbidden = []; unsafe = []; reached = q; unreached = u };
+    words = refl;
+    count = e;
+    bounds = h;
+    lists = record { forbidden = tt; unsafe = tt; reached = f; unreached = g };
+    no-forbidden = λ l. refl;
+    no-unsafe = λ l. refl;
+    ranks = r;
+  }
 
   -- the missing sides alone
   rest-sides : (s : PlanScan) (b : Box) → length b ≡ n - s .sides → Each SideFits b → Rest s (sideWords (s .sides) b)
-  unfolding forbiddenWords unsafeWords
-  rest-sides s b e h = record {
-    sides = b;
-    plan = emptyPlan;
-    words = sym (append-nil (sideWords (s .sides) b));
-    count = e;
-    bounds = h;
-    lists = record { forbidden = tt; unsafe = tt; dead = tt; rising = tt };
-    no-forbidden = λ l. refl;
-    no-unsafe = λ l. refl;
-    above = λ l. tt;
-  }
+  rest-sides s b e h =
+      let none : RanksAfter (s .section) (s .least) [] [] = record { no-reached = λ l. refl; reached-above = λ l. tt; unreached-above = λ l. tt } in
+      subst (Rest s) (append-nil (sideWords (s .sides) b)) (rest-ranks s b [] [] e h no-ranks no-ranks none)
+
+  -- behind a rank no box comes
+  only-ranks : (k l : ℕ) (ws : List ℕ) → UNSAFE-BOX < k → (r : Rest (placed k n l) ws) → ws ≡ deadWords (r .plan)
+  unfolding sideWords forbiddenWords unsafeWords
+  only-ranks k l ws h r = r .words ∙ rw (empty (r .sides) (omega (arith, r .count)), r .no-forbidden (omega arith), r .no-unsafe h)
 
   -- where no side is missing
   module _ (s : PlanScan) (full : n ≤ s .sides) where
@@ -157,19 +153,19 @@ module _ (n : ℕ) where
         let p = r .plan in
         record {
           sides = [];
-          plan = record { forbidden = record { device = d; box = r .sides } ∷ p .forbidden; unsafe = p .unsafe; dead = p .dead };
-          words = rw (r .words, regroup (sideWords 0 (r .sides)) (forbiddenWords (p .forbidden)) (unsafeWords (p .unsafe)) (deadWords (p .dead)));
+          plan = withForbidden (record { device = d; box = r .sides }) p;
+          words = rw (r .words, regroup (sideWords 0 (r .sides)) (forbiddenWords (p .forbidden)) (unsafeWords (p .unsafe)) (deadWords p));
           count = omega arith;
           bounds = tt;
           lists = record {
             forbidden = (record { device = h; box = record { count = omega (arith, r .count); sides = r .bounds } }, r .lists .forbidden);
             unsafe = r .lists .unsafe;
-            dead = r .lists .dead;
-            rising = r .lists .rising;
+            reached = r .lists .reached;
+            unreached = r .lists .unreached;
           };
           no-forbidden = λ k. absurd (omega arith);
           no-unsafe = λ k. absurd (omega arith);
-          above = λ k. absurd (omega arith);
+          ranks = after-boxes (s .section) (s .least) (p .reached) (p .unreached) (omega arith);
         }
 
     -- the header of an unsafe box
@@ -179,38 +175,38 @@ module _ (n : ℕ) where
         let p = r .plan in
         record {
           sides = [];
-          plan = record { forbidden = []; unsafe = r .sides ∷ p .unsafe; dead = p .dead };
-          words = rw (r .words, r .no-forbidden (omega arith), append-assoc (sideWords 0 (r .sides)) (unsafeWords (p .unsafe)) (deadWords (p .dead)));
+          plan = record { forbidden = []; unsafe = r .sides ∷ p .unsafe; reached = p .reached; unreached = p .unreached };
+          words = rw (r .words, r .no-forbidden (omega arith), append-assoc (sideWords 0 (r .sides)) (unsafeWords (p .unsafe)) (deadWords p));
           count = omega arith;
           bounds = tt;
           lists = record {
             forbidden = tt;
             unsafe = (record { count = omega (arith, r .count); sides = r .bounds }, r .lists .unsafe);
-            dead = r .lists .dead;
-            rising = r .lists .rising;
+            reached = r .lists .reached;
+            unreached = r .lists .unreached;
           };
           no-forbidden = λ k. refl;
           no-unsafe = λ k. absurd (omega arith);
-          above = λ k. absurd (omega arith);
+          ranks = after-boxes (s .section) (s .least) (p .reached) (p .unreached) l;
         }
 
-    -- a rank
-    rank-first : (d : ℕ) (ws : List ℕ) → s .least ≤ d → FieldFits d → Rest (placed DEAD-STATE n (suc d)) ws → Rest s (word DEAD-STATE d ∷ ws)
-    unfolding sideWords forbiddenWords unsafeWords
-    rank-first d ws l h r =
+    -- a rank of either kind
+    rank-first : (k d : ℕ) (ws : List ℕ) → isRank k ≡ true → s .section ≤ k → (s .section ≡ k → s .least ≤ d) → FieldFits d → Rest (placed k n (suc d)) ws
+        → Rest s (word k d ∷ ws)
+    unfolding sideWords
+    rank-first k d ws e m l h r =
         let p = r .plan in
-        let later = r .above (omega arith) in
-        record {
-          sides = [];
-          plan = record { forbidden = []; unsafe = []; dead = d ∷ p .dead };
-          words = rw (r .words, empty (r .sides) (omega (arith, r .count)), r .no-forbidden (omega arith), r .no-unsafe (omega arith));
-          count = omega arith;
-          bounds = tt;
-          lists = record { forbidden = tt; unsafe = tt; dead = (h, r .lists .dead); rising = (omega arith, later) };
-          no-forbidden = λ k. refl;
-          no-unsafe = λ k. refl;
-          above = λ k. (l, later);
-        }
+        by-rank k e
+        (λ z.
+        let later = r .ranks .reached-above z in
+        rw (z, only-ranks k (suc d) ws (omega arith) r)
+        (rest-ranks s [] (d ∷ p .reached) (p .unreached) (omega arith) tt (more-ranks d (p .reached) h (r .lists .reached) later) (r .lists .unreached)
+        (record { no-reached = λ q. absurd (omega arith); reached-above = λ q. (l (omega arith), later); unreached-above = λ q. absurd (omega arith) })))
+        (λ z.
+        let later = r .ranks .unreached-above z in
+        rw (z, only-ranks k (suc d) ws (omega arith) r, r .ranks .no-reached (omega arith))
+        (rest-ranks s [] [] (d ∷ p .unreached) (omega arith) tt no-ranks (more-ranks d (p .unreached) h (r .lists .unreached) later)
+        (record { no-reached = λ q. refl; reached-above = λ q. tt; unreached-above = λ q. (l (omega arith), later) })))
 
   -- ---- a word in the layout: words may come behind it, or it is END
   abbrev Goes : PlanScan → ℕ → Type 0
@@ -220,7 +216,7 @@ module _ (n : ℕ) where
   Ends s i w = (scanWord n s w .ended ≡ true) × Rest s [] × (w ≡ word END i) × FieldFits i
 
   read-word : (s : PlanScan) (i w : ℕ) → inLayout n s i w ≡ true → Goes s w ⊎ Ends s i w
-  unfolding inLayout scanWord
+  unfolding isRank inLayout scanWord
   read-word s i w e =
       let q = and-true (not (s .ended)) _ e in
       by-bool (ltb (s .sides) n)
@@ -235,8 +231,9 @@ module _ (n : ℕ) where
       inl (rw (more, k), λ ws r. rw (rw k at parts) (forbidden-first s full (fieldOf w) ws l f (rw (more, k) at r))))
       (λ k l f.
       inl (rw (more, k), λ ws r. rw (rw (k, f) at parts) (unsafe-first s full ws l (rw (more, k) at r))))
-      (λ k l.
-      inl (rw (more, k), λ ws r. rw (rw k at parts) (rank-first s full (fieldOf w) ws l (field-fits w) (rw (more, k) at r))))
+      (λ k l f.
+      let not-end = rank-only (kindOf w) k .0 in
+      inl (rw (more, not-end, k), λ ws r. rw parts (rank-first s full (kindOf w) (fieldOf w) ws k l f (field-fits w) (rw (more, not-end, k) at r))))
 
   -- ---- words up to END, and words that may go on to it
   -- what a place goes on to, and END

@@ -1,11 +1,11 @@
 -- The words of a plan whose lists fit are scanned without a fault, section by section.
-use Prim.Native.Nat.{ℕ, suc, _+_, _≤_}
+use Prim.Native.Nat.{ℕ, suc, _+_, _<_, _≤_}
 use native.Mathlib.Omega.{arith}
 use mathlib.Core.Path.{_≡_, refl, sym, ap, subst, _∙_}
-use mathlib.Core.Bool.{true, false}
+use mathlib.Core.Bool.{true, false, _||_}
 use mathlib.Core.List.{List, [], _∷_, _++_, append-assoc, append-nil}
 use lib.ListN.{length, length-append}
-use lib.Dec.{ltb}
+use lib.Dec.{ltb, leb}
 use borrow.Author.Tests.{lt-ltb, le-ltb, le-leb, eq-eqb}
 use Rattle.model.specs.Answer.{given, refused}
 use Rattle.model.specs.Layout.{word, END, withEnd}
@@ -18,19 +18,22 @@ use Rattle.model.specs.Plan.{
   FORBIDDEN-BOX,
   UNSAFE-BOX,
   DEAD-STATE,
+  UNREACHED-STATE,
   sideWord,
   sideWords,
   forbiddenWords,
   unsafeWords,
-  deadWords,
+  rankWords,
   planBody,
   planWords,
   sideOf,
 }
-use Rattle.model.specs.StoredPlan.{PlanScan, isSide, nothingScanned, mayFollow, inLayout, scanWord, scanFrom}
+use Rattle.model.specs.StoredPlan.{PlanScan, isSide, isRank, nothingScanned, mayFollow, inLayout, scanWord, scanFrom}
+use Rattle.model.proofs.Bools.{or-right}
 use Rattle.model.proofs.Each.{Each}
-use Rattle.model.proofs.Fits.{FieldFits, SideFits, Sided, DeviceSided, ListsFit}
+use Rattle.model.proofs.Fits.{FieldFits, SideFits, Sided, DeviceSided, RanksFit, ListsFit}
 use Rattle.model.proofs.PlanBack.{side-back}
+use Rattle.model.proofs.PlanKinds.{rank-only}
 use Rattle.model.proofs.Words.{kind-word, field-word}
 
 -- a word that gives back itself and bounds in order is a side's
@@ -93,7 +96,7 @@ module _ (n : ℕ) where
 
   forbidden-through : (i : ℕ) (fs : List Forbidden) → Each (DeviceSided n) fs
       → Through (placed FORBIDDEN-BOX n 0) i (forbiddenWords fs) (placed FORBIDDEN-BOX n 0)
-  unfolding forbiddenWords mayFollow scanWord
+  unfolding forbiddenWords isRank mayFollow scanWord
   forbidden-through i [] h = through-none (placed FORBIDDEN-BOX n 0) i
   forbidden-through i (f ∷ fs) h =
       let here = placed FORBIDDEN-BOX n 0 in
@@ -108,7 +111,7 @@ module _ (n : ℕ) where
   -- after some unsafe boxes the section is theirs, after none it is what it was
   unsafe-through : (i j : ℕ) (bs : List Box) → j ≤ UNSAFE-BOX → Each (Sided n) bs
       → (k : ℕ) × (k ≤ UNSAFE-BOX) × Through (placed j n 0) i (unsafeWords bs) (placed k n 0)
-  unfolding unsafeWords mayFollow scanWord
+  unfolding unsafeWords isRank mayFollow scanWord
   unsafe-through i j [] l h = (j, l, through-none (placed j n 0) i)
   unsafe-through i j (b ∷ bs) l h =
       let first = word UNSAFE-BOX 0 ∷ sideWords 0 b in
@@ -120,36 +123,50 @@ module _ (n : ℕ) where
             (more .2),
       )
 
-  -- ---- ranks that rise
-  dead-through : (i j l : ℕ) (ds : List ℕ) → j ≤ DEAD-STATE → Each FieldFits ds → AscendingFrom l ds
-      → (k : ℕ) × (m : ℕ) × Through (placed j n l) i (deadWords ds) (placed k n m)
-  unfolding inLayout mayFollow scanWord
-  dead-through i j l [] e h a = (j, l, through-none (placed j n l) i)
-  dead-through i j l (d ∷ ds) e h a =
-      let kind = kind-word DEAD-STATE d (h .0) in
-      let field = field-word DEAD-STATE d (h .0) in
-      let more = dead-through (suc i) DEAD-STATE (suc d) ds (omega arith) (h .1) (a .1) in (
-        more .0,
-        more .1,
-        through-word (placed j n l) (placed DEAD-STATE n (suc d)) i (word DEAD-STATE d)
-            (rw (full, kind, field, le-leb j DEAD-STATE e, le-leb l d (a .0)))
-            (rw (full, kind, field))
-            (deadWords ds) (placed (more .0) n (more .1)) (more .2),
-      )
+  -- ---- ranks of one kind
+  module _ (kind : ℕ) (is-rank : isRank kind ≡ true) where
+    -- that rise from r on, where each from r on may follow
+    ranks-through : (i j l r : ℕ) (ds : List ℕ) → j ≤ kind → ((d : ℕ) → r ≤ d → (ltb j kind || leb l d) ≡ true) → Each FieldFits ds → AscendingFrom r ds
+        → (k : ℕ) × (m : ℕ) × (k ≤ kind) × Through (placed j n l) i (rankWords kind ds) (placed k n m)
+    unfolding inLayout mayFollow scanWord
+    ranks-through i j l r [] e may h a = (j, l, e, through-none (placed j n l) i)
+    ranks-through i j l r (d ∷ ds) e may h a =
+        let own = kind-word kind d (h .0) in
+        let field = field-word kind d (h .0) in
+        let (not-end, not-forbidden, not-unsafe) = rank-only kind is-rank in
+        let after : (q : ℕ) → suc d ≤ q → (ltb kind kind || leb (suc d) q) ≡ true = λ q m. or-right (ltb kind kind) (leb (suc d) q) (le-leb (suc d) q m) in
+        let more = ranks-through (suc i) kind (suc d) (suc d) ds (omega arith) after (h .1) (a .1) in (
+          more .0,
+          more .1,
+          more .2,
+          through-word (placed j n l) (placed kind n (suc d)) i (word kind d)
+              (rw (full, own, field, not-end, le-leb j kind e, not-forbidden, not-unsafe, is-rank) (may d (a .0)))
+              (rw (full, own, field, not-end, is-rank))
+              (rankWords kind ds) (placed (more .0) n (more .1)) (more .3),
+        )
+
+    -- in a section of a higher kind than the last
+    section-through : (i j l : ℕ) (ds : List ℕ) → j < kind → RanksFit ds
+        → (k : ℕ) × (m : ℕ) × (k ≤ kind) × Through (placed j n l) i (rankWords kind ds) (placed k n m)
+    section-through i j l ds e h = ranks-through i j l 0 ds (omega arith) (λ d m. rw (lt-ltb j kind e)) (h .fit) (h .rise)
 
   -- ---- the whole: its sections, and END with the number of words before it
   body-through : (p : Plan) → ListsFit n p → (k : ℕ) × (m : ℕ) × Through (nothingScanned n) 0 (planBody p) (placed k n m)
+  unfolding isRank
   body-through p h =
       let f = forbiddenWords (p .forbidden) in
       let u = unsafeWords (p .unsafe) in
+      let q = rankWords DEAD-STATE (p .reached) in
+      let v = rankWords UNREACHED-STATE (p .unreached) in
       let start = nothingScanned n in
-      let unsafes = unsafe-through (0 + length f) FORBIDDEN-BOX (p .unsafe) (omega arith) (h .unsafe) in
-      let deads = dead-through (0 + length (f ++ u)) (unsafes .0) 0 (p .dead) (omega (arith, unsafes .1)) (h .dead) (h .rising) in (
-        deads .0,
-        deads .1,
-        through-append start (placed (unsafes .0) n 0) (placed (deads .0) n (deads .1)) 0 (f ++ u) (deadWords (p .dead))
-            (through-append start start (placed (unsafes .0) n 0) 0 f u (forbidden-through 0 (p .forbidden) (h .forbidden)) (unsafes .2))
-            (deads .2),
+      let (k, low, unsafes) = unsafe-through (0 + length f) FORBIDDEN-BOX (p .unsafe) (omega arith) (h .unsafe) in
+      let (j, l, few, reached) = section-through DEAD-STATE refl (0 + length (f ++ u)) k 0 (p .reached) (omega (arith, low)) (h .reached) in
+      let (m, r, most, others) = section-through UNREACHED-STATE refl (0 + length (f ++ u) + length q) j l (p .unreached) (omega (arith, few)) (h .unreached) in (
+        m,
+        r,
+        through-append start (placed k n 0) (placed m n r) 0 (f ++ u) (q ++ v)
+            (through-append start start (placed k n 0) 0 f u (forbidden-through 0 (p .forbidden) (h .forbidden)) unsafes)
+            (through-append (placed k n 0) (placed j n l) (placed m n r) (0 + length (f ++ u)) q v reached others),
       )
 
   -- without END they are refused at their number

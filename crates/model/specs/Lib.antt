@@ -13,6 +13,7 @@ pub mod Box
 pub mod Forbidden
 pub mod TaskTable
 pub mod Map
+pub mod Reach
 pub mod UnsafeBoxes
 pub mod Plan
 pub mod Record

@@ -1,6 +1,6 @@
 -- A stored plan, questioned without its set (SCOPE.md, "Stored plans"; refusals 22 and 23).
 use Prim.Native.Nat.{ℕ, suc}
-use mathlib.Core.Bool.{Bool, true, false, not, cond, _&&_}
+use mathlib.Core.Bool.{Bool, true, false, not, cond, _&&_, _||_}
 use mathlib.Core.Option.{Option, none, some}
 use mathlib.Core.List.{List, [], _∷_, map}
 use lib.ListN.{take}
@@ -9,7 +9,7 @@ use Rattle.model.specs.Answer.{Answer, given, refused, _then_}
 use Rattle.model.specs.Layout.{kindOf, fieldOf, END}
 use Rattle.model.specs.State.{State}
 use Rattle.model.specs.Box.{Box, inside}
-use Rattle.model.specs.Plan.{FORBIDDEN-BOX, UNSAFE-BOX, DEAD-STATE, sideWord, sideOf}
+use Rattle.model.specs.Plan.{FORBIDDEN-BOX, UNSAFE-BOX, DEAD-STATE, UNREACHED-STATE, sideWord, sideOf}
 
 -- where a scan of a plan's words stands
 pub record PlanScan : Type 0 where
@@ -17,7 +17,7 @@ pub record PlanScan : Type 0 where
   pub section : ℕ
   -- how many sides the last box has so far; the task count where none is missing
   pub sides : ℕ
-  -- the lowest rank that may come next
+  -- the lowest rank of that kind that may come next
   pub least : ℕ
   -- whether END came
   pub ended : Bool
@@ -26,8 +26,12 @@ pub record PlanScan : Type 0 where
 unfoldable pub isSide : ℕ → ℕ → Bool
 isSide t w = eqb w (sideWord t (sideOf w)) && leb (sideOf w .low) (sideOf w .high)
 
--- a word that may stand at index i where no side is missing: END with its index; else of kind 6 with a device below 16, then 7 with field 0, then 9 with
--- a rank above the last
+-- the kinds of words that name states by their ranks
+unfoldable pub isRank : ℕ → Bool
+isRank k = eqb k DEAD-STATE || eqb k UNREACHED-STATE
+
+-- a word that may stand at index i where no side is missing: END with its index; else of kind 6 with a device below 16, then 7 with field 0, then 9 and then A, both
+-- with a rank above the last of their kind
 unfoldable pub mayFollow : PlanScan → ℕ → ℕ → Bool
 mayFollow s i w =
     let k = kindOf w in
@@ -36,7 +40,7 @@ mayFollow s i w =
     (leb (s .section) k
     && cond (eqb k FORBIDDEN-BOX) (ltb f 16)
     (cond (eqb k UNSAFE-BOX) (eqb f 0)
-    (eqb k DEAD-STATE && leb (s .least) f)))
+    (isRank k && (ltb (s .section) k || leb (s .least) f))))
 
 -- n is the task count
 module _ (n : ℕ) where
@@ -54,7 +58,7 @@ module _ (n : ℕ) where
       let k = kindOf w in
       cond (ltb (s .sides) n) (record { section = s .section; sides = suc (s .sides); least = s .least; ended = s .ended })
       (cond (eqb k END) (record { section = s .section; sides = n; least = s .least; ended = true })
-      (cond (eqb k DEAD-STATE) (record { section = k; sides = n; least = suc (fieldOf w); ended = false })
+      (cond (isRank k) (record { section = k; sides = n; least = suc (fieldOf w); ended = false })
       (record { section = k; sides = 0; least = 0; ended = false })))
 
   -- the words from index i on: 23 at the first outside the layout, at the number of all words if END is missing

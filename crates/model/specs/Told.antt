@@ -8,9 +8,9 @@ use Rattle.model.specs.Read.{Reading}
 use Rattle.model.specs.Broker.{Bid, granted, finished, busy, held, Again, restarted}
 use Rattle.model.specs.StoredPlan.{Location, in-forbidden, in-unsafe, in-neither}
 
--- the version of the library, 1.1.1: major times 10,000, minor times 100, patch
+-- the version of the library, 2.0.0: major times 10,000, minor times 100, patch
 abbrev pub VERSION : ℕ
-VERSION = 10101
+VERSION = 20000
 
 -- a kind, a refusal's number and a value; 0 where there is none
 pub record Told : Type 0 where

@@ -1,7 +1,7 @@
 // The numbers of docs/SCOPE.md, by name. What they mean stands in specs/, and the theorems on it in proofs/.
 
 // The version of all that is built from here: major times 10,000, minor times 100, patch. CHANGELOG.md says what moves which.
-pub const VERSION: u32 = 10101;
+pub const VERSION: u32 = 20000;
 
 // The limits of a set.
 pub const MAX_WORDS: usize = 4096;
@@ -38,6 +38,8 @@ pub const UNSAFE_BOX: u32 = 7;
 pub const SIDE: u32 = 8;
 
 pub const DEAD_STATE: u32 = 9;
+
+pub const UNREACHED_STATE: u32 = 10;
 
 // The map's bytes.
 pub const OPEN: u8 = 0;

@@ -17,10 +17,10 @@ use Rattle.model.specs.Layout.{kindOf, fieldOf, END}
 use Rattle.model.specs.State.{State}
 use Rattle.model.specs.Hold.{within}
 use Rattle.model.specs.Box.{inside}
-use Rattle.model.specs.Plan.{FORBIDDEN-BOX, UNSAFE-BOX, DEAD-STATE, sideOf}
-use Rattle.model.specs.StoredPlan.{isSide, mayFollow, inLayout, scanWord, scanFrom, boxOf, firstOf, Location, locate}
-use Rattle.model.proofs.Bools.{by-bool, by-cases, and-true}
-use Rattle.model.proofs.PlanScanned.{by-header, kind-told}
+use Rattle.model.specs.Plan.{FORBIDDEN-BOX, UNSAFE-BOX, sideOf}
+use Rattle.model.specs.StoredPlan.{isSide, isRank, mayFollow, inLayout, scanWord, scanFrom, boxOf, firstOf, Location, locate}
+use Rattle.model.proofs.Bools.{by-bool, by-cases, true-not-false, and-true}
+use Rattle.model.proofs.PlanKinds.{rank-only, by-header, kind-told}
 use Rattle.model.proofs.Located.{none-after}
 use Rattle.plan_reader.specs.declared.Located.{Located}
 use Rattle.plan_reader.specs.declared.seen.Seen.{Seen}
@@ -50,9 +50,9 @@ module _ (n : ℕ) (x : State) (count : ℕ) (least : 0 < n) (most : n ≤ 8) (l
   answerAt s i ws = scanFrom n (scanOf s) i ws then λ _. given (liesAt s i ws)
 
   -- a word of another kind begins no box of this one
-  skips : (kind i w : ℕ) (ws : List ℕ) → (kindOf w ≡ kind → ⊥) → firstOf n kind y i (w ∷ ws) ≡ firstOf n kind y (suc i) ws
+  skips : (kind i w : ℕ) (ws : List ℕ) → eqb (kindOf w) kind ≡ false → firstOf n kind y i (w ∷ ws) ≡ firstOf n kind y (suc i) ws
   unfolding firstOf
-  skips kind i w ws no-kind = rw (ne-eqb (kindOf w) kind no-kind)
+  skips kind i w ws e = rw e
 
   -- ---- one more side
   positions : length y ≡ n
@@ -121,7 +121,7 @@ module _ (n : ℕ) (x : State) (count : ℕ) (least : 0 < n) (most : n ≤ 8) (l
     side-step : (i : ℕ) → isSide (s .sides) w ≡ true → answerAt t (suc i) ws ≡ answerAt s i (w ∷ ws)
     side-step i e =
         let kind = kind-told (s .sides) w (omega (arith, h, most)) e in
-        rw (side-scanned i e, side-found, skips FORBIDDEN-BOX i w ws (λ k. omega (arith, kind, k)), skips UNSAFE-BOX i w ws (λ k. omega (arith, kind, k)))
+        rw (side-scanned i e, side-found, skips FORBIDDEN-BOX i w ws (rw kind), skips UNSAFE-BOX i w ws (rw kind))
 
   -- ---- a word where no side is missing
   module _ (s : Seen) (i w : ℕ) (ws : List ℕ) (h : n ≤ s .sides) (e : mayFollow (scanOf s) i w ≡ true) where
@@ -130,32 +130,35 @@ module _ (n : ℕ) (x : State) (count : ℕ) (least : 0 < n) (most : n ≤ 8) (l
     none-begun vs = rw (le-ltb (s .sides) n h)
 
     -- a rank
-    rank-scanned : kindOf w ≡ DEAD-STATE → scanFrom n (scanOf s) i (w ∷ ws) ≡ scanFrom n (scanOf (rankNoted n s (kindOf w) (fieldOf w))) (suc i) ws
+    rank-scanned : isRank (kindOf w) ≡ true → scanFrom n (scanOf s) i (w ∷ ws) ≡ scanFrom n (scanOf (rankNoted n s (kindOf w) (fieldOf w))) (suc i) ws
     unfolding scanFrom inLayout scanWord
-    rank-scanned k = rw (le-ltb (s .sides) n h, e, k, add-one (fieldOf w))
+    rank-scanned k = rw (le-ltb (s .sides) n h, e, rank-only (kindOf w) k .0, k, add-one (fieldOf w))
 
-    rank-step : kindOf w ≡ DEAD-STATE → answerAt (rankNoted n s (kindOf w) (fieldOf w)) (suc i) ws ≡ answerAt s i (w ∷ ws)
+    rank-step : isRank (kindOf w) ≡ true → answerAt (rankNoted n s (kindOf w) (fieldOf w)) (suc i) ws ≡ answerAt s i (w ∷ ws)
     rank-step k =
+        let (not-end, not-forbidden, not-unsafe) = rank-only (kindOf w) k in
         rw (
           rank-scanned k,
           le-ltb n n (omega arith),
           none-begun (w ∷ ws),
-          skips FORBIDDEN-BOX i w ws (λ q. omega (arith, k, q)),
-          skips UNSAFE-BOX i w ws (λ q. omega (arith, k, q)),
+          skips FORBIDDEN-BOX i w ws not-forbidden,
+          skips UNSAFE-BOX i w ws not-unsafe,
         )
 
     -- the first word of a box: a word that may follow, and is neither END nor a rank
-    module _ (not-end : kindOf w ≡ END → ⊥) (not-rank : kindOf w ≡ DEAD-STATE → ⊥) where
+    module _ (not-end : eqb (kindOf w) END ≡ false) (not-rank : isRank (kindOf w) ≡ false) where
       abbrev b : Seen
       b = boxNoted s (kindOf w) i
 
       box-scanned : scanFrom n (scanOf s) i (w ∷ ws) ≡ scanFrom n (scanOf b) (suc i) ws
       unfolding scanFrom inLayout scanWord
-      box-scanned = rw (le-ltb (s .sides) n h, e, ne-eqb (kindOf w) END not-end, ne-eqb (kindOf w) DEAD-STATE not-rank)
+      box-scanned = rw (le-ltb (s .sides) n h, e, not-end, not-rank)
 
       -- it is forbidden or unsafe
       box-kind : (kindOf w ≡ FORBIDDEN-BOX) ⊎ (kindOf w ≡ UNSAFE-BOX)
-      box-kind = by-header (scanOf s) i w e (λ k f. absurd (not-end k)) (λ k late f. inl k) (λ k late f. inr k) (λ k f. absurd (not-rank k))
+      box-kind =
+          by-header (scanOf s) i w e (λ k f. absurd (eqb-false (kindOf w) END not-end k)) (λ k late f. inl k) (λ k late f. inr k)
+          (λ k late f. true-not-false _ k not-rank)
 
       -- where the state lies, if the words behind it are in the layout
       box-lies : scanFrom n (scanOf b) (suc i) ws ≡ given tt → liesAt b (suc i) ws ≡ liesAt s i (w ∷ ws)
@@ -175,8 +178,10 @@ module _ (n : ℕ) (x : State) (count : ℕ) (least : 0 < n) (most : n ≤ 8) (l
       box-step = rw box-scanned (same-then _ _ _ box-lies)
 
   -- a word that may follow and is not END is of a section's kind
-  kind-begun : (s : Seen) (i w : ℕ) → mayFollow (scanOf s) i w ≡ true → (kindOf w ≡ END → ⊥) → FORBIDDEN-BOX ≤ kindOf w
-  kind-begun s i w e not-end = by-header (scanOf s) i w e (λ k f. absurd (not-end k)) (λ k late f. omega arith) (λ k late f. omega arith) (λ k f. omega arith)
+  kind-begun : (s : Seen) (i w : ℕ) → Sound s → mayFollow (scanOf s) i w ≡ true → eqb (kindOf w) END ≡ false → FORBIDDEN-BOX ≤ kindOf w
+  kind-begun s i w o e not-end =
+      by-header (scanOf s) i w e (λ k f. absurd (eqb-false (kindOf w) END not-end k)) (λ k late f. omega arith) (λ k late f. omega arith)
+      (λ k late f. omega (arith, o .begun, late))
 
   -- a word after END
   end-told : (s : Seen) (i w v : ℕ) (vs : List ℕ) → n ≤ s .sides → mayFollow (scanOf s) i w ≡ true → kindOf w ≡ END
@@ -231,16 +236,16 @@ module _ (n : ℕ) (x : State) (count : ℕ) (least : 0 < n) (most : n ≤ 8) (l
       by-bool (eqb (kindOf w) END)
       (λ k. ap told (stops s (endNoted count s i) i w ws (rw (l, e, k)) (end-stops s i)) ∙ end-step s i w ws h e (eqb-true (kindOf w) END k) o c)
       (λ k.
-      let above = kind-begun s i w e (eqb-false (kindOf w) END k) in
-      by-bool (eqb (kindOf w) DEAD-STATE)
+      let above = kind-begun s i w o e k in
+      by-bool (isRank (kindOf w))
       (λ r.
       let t = rankNoted n s (kindOf w) (fieldOf w) in
       ap told (goes-on s t i w ws (rw (l, e, k, r)) refl) ∙ ends t (suc i) ws (record { no-fault = o .no-fault; begun = above }) rest
-      ∙ rank-step s i w ws h e (eqb-true (kindOf w) DEAD-STATE r))
+      ∙ rank-step s i w ws h e r)
       (λ r.
       let t = boxNoted s (kindOf w) i in
       ap told (goes-on s t i w ws (rw (l, e, k, r)) refl) ∙ ends t (suc i) ws (record { no-fault = o .no-fault; begun = above }) rest
-      ∙ box-step s i w ws h e (eqb-false (kindOf w) END k) (eqb-false (kindOf w) DEAD-STATE r))))
+      ∙ box-step s i w ws h e k r)))
       (λ e. outside s i w ws (rw (l, e)) (rw (l, e))))
 
 -- the answer to a question, of eight positions, for 1 to 8 tasks

@@ -8,8 +8,8 @@ use Rattle.model.specs.Set.{at}
 use Rattle.model.specs.Layout.{kindOf, fieldOf, END}
 use Rattle.model.specs.State.{State}
 use Rattle.model.specs.Hold.{within}
-use Rattle.model.specs.Plan.{FORBIDDEN-BOX, DEAD-STATE, sideOf}
-use Rattle.model.specs.StoredPlan.{PlanScan, isSide, mayFollow}
+use Rattle.model.specs.Plan.{FORBIDDEN-BOX, sideOf}
+use Rattle.model.specs.StoredPlan.{PlanScan, isSide, isRank, mayFollow}
 use Rattle.plan_reader.specs.declared.Located.{Located}
 use Rattle.plan_reader.specs.declared.Located.the-variants.{Forbidden, Unsafe, Neither, Refused}
 use Rattle.plan_reader.specs.declared.seen.Seen.{Seen}
@@ -77,7 +77,7 @@ abbrev pub headTaken : ℕ → ℕ → Seen → ℕ → ℕ → Seen
 headTaken n count s i w =
     cond (mayFollow (scanOf s) i w)
     (cond (eqb (kindOf w) END) (endNoted count s i)
-    (cond (eqb (kindOf w) DEAD-STATE) (rankNoted n s (kindOf w) (fieldOf w))
+    (cond (isRank (kindOf w)) (rankNoted n s (kindOf w) (fieldOf w))
     (boxNoted s (kindOf w) i)))
     (outsideAt s i)
 

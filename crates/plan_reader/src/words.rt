@@ -62,7 +62,7 @@ fn may_follow(s: Seen, at: usize, word: u32) -> bool
     match kind {
         model::FORBIDDEN_BOX => field < DEVICES,
         model::UNSAFE_BOX => field == 0,
-        model::DEAD_STATE => s.least <= field,
+        model::DEAD_STATE | model::UNREACHED_STATE => s.section < kind || s.least <= field,
         _ => false,
     }
 }
@@ -131,7 +131,9 @@ fn take_head(s: Seen, at: usize, word: u32, tasks: usize, count: usize) -> Seen
     let kind = set_words::kind(word);
     match kind {
         model::END => take_end(s, at, count),
-        model::DEAD_STATE => take_rank(s, kind, set_words::field(word), tasks),
+        model::DEAD_STATE | model::UNREACHED_STATE => {
+            take_rank(s, kind, set_words::field(word), tasks)
+        }
         _ => take_box(s, kind, at),
     }
 }

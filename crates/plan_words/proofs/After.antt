@@ -13,6 +13,13 @@ use Rattle.plan_words.proofs.Write.{wrote-next, wrote-full, read-next, 
 pub wrote-none : {p : List ℕ} {a : ℕ} → a ≤ length p → Wrote p a [] (Next a) p
 wrote-none {p} {a} h = wrote-next (omega arith) (omega arith) (sym (write-none p a h))
 
+-- a run whose answer is known, and one that is the same words otherwise told
+pub answered : {p q : List ℕ} {a : ℕ} {us : List ℕ} {r known : Placed} → Wrote p a us r q → r ≡ known → Wrote p a us known q
+answered w e = rw e at w
+
+pub wrote-same : {p q : List ℕ} {a : ℕ} {us vs : List ℕ} {r : Placed} → us ≡ vs → Wrote p a us r q → Wrote p a vs r q
+wrote-same e w = rw e at w
+
 -- one word, in its place
 pub wrote-one : {p : List ℕ} {a v : ℕ} → a < length p → Wrote p a (v ∷ []) (Next (a + 1)) (set p a v)
 wrote-one {p} {a} {v} h = wrote-next (omega arith) (omega arith) (write-one p a v h)

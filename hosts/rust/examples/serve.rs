@@ -14,8 +14,9 @@ fn described(analysed: &Analysed) -> String {
     let boxes = plan.boxes().count();
     let unsafe_boxes = plan.boxes().filter(|plan_box| plan_box.kind == BoxKind::Unsafe).count();
     let of_set = format!("words: {}, devices: {}, tasks: {}, states: {}", set.words().len(), set.devices(), set.tasks(), set.states());
-    let of_plan = format!("forbidden boxes: {}, unsafe boxes: {unsafe_boxes}, dead states: {}", boxes - unsafe_boxes, plan.dead_states().count());
-    format!("{of_set}\n{of_plan}\n")
+    let of_plan = format!("forbidden boxes: {}, unsafe boxes: {unsafe_boxes}", boxes - unsafe_boxes);
+    let dead = format!("dead states: {} reached, {} not", plan.dead_states().count(), plan.unreached_states().count());
+    format!("{of_set}\n{of_plan}, {dead}\n")
 }
 
 /// One bid of every task, each told; whether all of them were finished already.

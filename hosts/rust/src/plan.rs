@@ -87,9 +87,19 @@ impl<'a> Plan<'a> {
         plain::locate(positions, self.words, tasks)
     }
 
-    /// The ranks of its dead states, rising.
+    /// The ranks, rising, of the dead states to which allowed steps lead from the start. These are the ones to mend first: without the arbiter, tasks can come to
+    /// wait for each other there in service.
     pub fn dead_states(self) -> impl Iterator<Item = usize> + 'a {
-        self.words.iter().filter(|&&word| kind_of(word) == sys::DEAD_STATE).map(|&word| field_of(word))
+        self.ranks_of(sys::DEAD_STATE)
+    }
+
+    /// The ranks, rising, of the other dead states, which no run can enter. They matter only if a record or the set is changed by hand, or a task's order changes.
+    pub fn unreached_states(self) -> impl Iterator<Item = usize> + 'a {
+        self.ranks_of(sys::UNREACHED_STATE)
+    }
+
+    fn ranks_of(self, kind: u32) -> impl Iterator<Item = usize> + 'a {
+        self.words.iter().filter(move |&&word| kind_of(word) == kind).map(|&word| field_of(word))
     }
 }
 

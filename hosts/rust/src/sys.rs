@@ -53,7 +53,7 @@ extern "C" {
 }
 
 // The version that this interface is of, and the library must be: major times 10,000, minor times 100, patch.
-pub const VERSION: u32 = 10101;
+pub const VERSION: u32 = 20000;
 
 // The kinds of an answer. A zeroed answer is a refusal.
 pub const REFUSED: u32 = 0; // value: the refusal's place
@@ -91,7 +91,8 @@ pub const END: u32 = 5;
 pub const FORBIDDEN_BOX: u32 = 6;
 pub const UNSAFE_BOX: u32 = 7;
 pub const SIDE: u32 = 8;
-pub const DEAD_STATE: u32 = 9;
+pub const DEAD_STATE: u32 = 9; // a dead state to which allowed steps lead from the start
+pub const UNREACHED_STATE: u32 = 10; // a dead state that no run can enter
 
 // The map's bytes.
 pub const OPEN: u8 = 0;

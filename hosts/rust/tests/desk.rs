@@ -4,7 +4,7 @@ mod sets;
 
 use arbiter::plain::{again, analyse, bid, read, route, NOT_ANALYSED};
 use arbiter::{sys, BidAnswer, Record, Refusal};
-use sets::{refused, users_of_one_device, A, PLAN, STATES};
+use sets::{refused, users_of_one_device, A, PLAN, R, R_PLAN, STATES, STATES_OF_R, U, U_PLAN};
 
 fn map_of_a() -> [u8; STATES] {
     let mut map = [NOT_ANALYSED; STATES];
@@ -38,6 +38,24 @@ fn example_a_is_planned_and_the_rest_of_the_slices_stays() {
             NOT_ANALYSED
         ]
     );
+}
+
+#[test]
+fn dead_states_that_are_not_reached_come_last_and_count_for_the_slice() {
+    for (set, plan) in [(R, &R_PLAN[..]), (U, &U_PLAN)] {
+        let (mut map, mut words) = ([NOT_ANALYSED; STATES_OF_R], vec![0xAAAA_AAAA; plan.len() + 1]);
+        assert_eq!(analyse(&set, &mut map, &mut words), Ok(plan.len()));
+        assert_eq!(words[..plan.len()], *plan);
+        assert_eq!(words[plan.len()..], [0xAAAA_AAAA]);
+        let dead: Vec<usize> = (0..STATES_OF_R).filter(|&rank| map[rank] == sys::DEAD).collect();
+        let listed: Vec<usize> = plan.iter().filter(|&&word| word >= 0x9000_0000).map(|&word| (word & 0x0FFF_FFFF) as usize).collect();
+        assert_eq!(dead, listed);
+        for short in [plan.len() - 1, plan.len() - 2, 0] {
+            let mut words = vec![0xAAAA_AAAA; short];
+            assert_eq!(analyse(&set, &mut map, &mut words), refused(Refusal::PlanTooShort, short));
+            assert_eq!(words, vec![0; short]);
+        }
+    }
 }
 
 #[test]

@@ -3,7 +3,7 @@
 mod sets;
 
 use arbiter::{plain, sys, BoxKind, Location, Plan, Positions, Refusal, Refused, Set};
-use sets::{refused, users_of_one_device, A, D, E, PLAN};
+use sets::{refused, users_of_one_device, A, D, E, PLAN, R, R_PLAN, U, U_PLAN};
 
 /// These positions of the first tasks; past them some that no box of the examples has.
 fn at(first: &[u8]) -> Positions {
@@ -84,7 +84,7 @@ fn agrees_with_its_map(words: &[u32]) {
 
 #[test]
 fn plans_agree_with_their_maps_at_every_state() {
-    for words in [&A[..], &D, &E, &users_of_one_device(1, &[20, 20]), &users_of_one_device(3, &[1, 1, 1, 1, 1])] {
+    for words in [&A[..], &D, &E, &R, &U, &users_of_one_device(1, &[20, 20]), &users_of_one_device(3, &[1, 1, 1, 1, 1])] {
         agrees_with_its_map(words);
     }
 }
@@ -118,11 +118,11 @@ fn a_plan_that_is_cut_is_refused_at_its_length() {
 fn a_plan_with_one_word_changed_is_refused_at_that_word() {
     let cases: [(usize, &[u32]); 11] = [
         // A first word of a box: kinds that no plan has there, a device over 15, a field in kind 7.
-        (0, &[0x00000000, 0x10000000, 0x40000000, 0x80000103, 0xA0000000, 0xF0000000, 0x60000010, 0x60000100, 0x68000000]),
+        (0, &[0x00000000, 0x10000000, 0x40000000, 0x80000103, 0xB0000000, 0xF0000000, 0x60000010, 0x60000100, 0x68000000]),
         (3, &[0x80020000, 0x60000010, 0x50000004, 0x50000002]),
         (6, &[0x70000001, 0x70000010, 0x78000000, 0x5000000A]),
         // A side: another kind, another task, the lowest position over the highest, a bit that isn't used.
-        (1, &[0x60000000, 0x70000103, 0x90000103, 0x50000001, 0x80010103, 0x80FF0103, 0x80000302, 0x80000100, 0x81000103, 0x88000103]),
+        (1, &[0x60000000, 0x70000103, 0x90000103, 0xA0000103, 0x50000001, 0x80010103, 0x80FF0103, 0x80000302, 0x80000100, 0x81000103, 0x88000103]),
         (2, &[0x80000202, 0x80020202, 0x80010302, 0x80010201, 0x84010202]),
         (8, &[0x80000101, 0x80020101, 0x80010201, 0x82010101, 0x60000000]),
         // Kinds in another order.
@@ -155,6 +155,34 @@ fn words_after_end_and_ranks_that_do_not_rise_are_refused() {
     outside(&[0x90000006, 0x60000000, 0x80000101, 0x80010101, 0x50000004], 1);
     // Ranks are held to each other and to nothing else.
     assert_eq!(plain::locate(at(&[0]), &[0x90000000, 0x90000001, 0x9FFFFFFF, 0x50000003], 8), Ok(Location::Neither));
+}
+
+#[test]
+fn dead_states_that_are_not_reached_stand_behind_the_others_and_rise_by_themselves() {
+    // Behind ranks that are lower, equal or higher, and where there are none.
+    for [first, second] in [[0x90000006, 0xA0000007], [0x90000006, 0xA0000006], [0x90000006, 0xA0000005], [0xA0000000, 0xAFFFFFFF]] {
+        assert_eq!(plain::locate(at(&[1, 1]), &[first, second, 0x50000002], 2), Ok(Location::Neither), "{first:X} {second:X}");
+    }
+    outside(&[0x90000001, 0xA0000006, 0xA0000006, 0x50000003], 2);
+    outside(&[0xA0000006, 0xA0000005, 0x50000002], 1);
+    // After one of them neither a reached one nor a box.
+    outside(&[0xA0000005, 0x90000006, 0x50000002], 1);
+    outside(&[0x90000005, 0xA0000006, 0x90000007, 0x50000003], 2);
+    outside(&[0xA0000006, 0x70000000, 0x80000101, 0x80010101, 0x50000004], 1);
+    outside(&[0xA0000006, 0x60000000, 0x80000101, 0x80010101, 0x50000004], 1);
+    // No kind comes after it but END.
+    for kind in [0, 1, 2, 3, 4, 8, 11, 12, 13, 14, 15] {
+        outside(&[0x90000005, 0xA0000006, kind << 28 | 7, 0x50000003], 2);
+        outside(&[kind << 28 | 7, 0x50000001], 0);
+    }
+    for plan in [&R_PLAN[..], &U_PLAN] {
+        assert_eq!(plain::locate(at(&[0, 0]), plan, 2), Ok(Location::Neither));
+        for length in 0..plan.len() {
+            outside(&plan[..length], length);
+        }
+    }
+    assert_eq!(plain::locate(at(&[4, 3]), &R_PLAN, 2), Ok(Location::Unsafe { index: 12 }));
+    assert_eq!(plain::locate(at(&[3, 4]), &U_PLAN, 2), Ok(Location::Unsafe { index: 12 }));
 }
 
 #[test]

@@ -3,7 +3,7 @@
 mod sets;
 
 use arbiter::{plain, sys, Action, BidAnswer, BoxKind, Location, NoSuchRefusal, Plan, Positions, Record, Refusal, Refused, Set, State};
-use sets::{refused, A, D, E, PLAN, STATES};
+use sets::{refused, A, D, E, PLAN, R, R_PLAN, STATES, STATES_OF_R, U, U_PLAN};
 use std::ops::RangeInclusive;
 
 const CLAIM_0: Action = Action::Claim { device: 0 };
@@ -113,17 +113,36 @@ fn the_boxes_and_dead_states_of_plans() {
         boxes(plan),
         [(BoxKind::Forbidden { device: 0 }, vec![1..=3, 2..=2]), (BoxKind::Forbidden { device: 1 }, vec![2..=2, 1..=3]), (BoxKind::Unsafe, vec![1..=1, 1..=1])]
     );
-    assert_eq!(plan.dead_states().collect::<Vec<_>>(), [6]);
+    assert_eq!(dead_states(plan), (vec![6], vec![]));
 
     let mut words = [0; 64];
     let length = plain::analyse(&D, &mut [plain::NOT_ANALYSED; 49], &mut words).unwrap();
     let plan = Plan::new(&words[..length]);
     let unsafe_boxes: Vec<_> = boxes(plan).into_iter().filter(|(kind, _)| *kind == BoxKind::Unsafe).collect();
     assert_eq!(unsafe_boxes, [(BoxKind::Unsafe, vec![2..=3, 1..=3]), (BoxKind::Unsafe, vec![1..=1, 1..=1])]);
-    assert_eq!(plan.dead_states().collect::<Vec<_>>(), [24]);
+    assert_eq!(dead_states(plan), (vec![24], vec![]));
 
     let length = plain::analyse(&E, &mut [plain::NOT_ANALYSED; 27], &mut words).unwrap();
     assert_eq!(boxes(Plan::new(&words[..length])), [(BoxKind::Forbidden { device: 0 }, vec![1..=1, 1..=1, 1..=1])]);
+}
+
+/// A plan's dead states that are reached, and the others.
+fn dead_states(plan: Plan) -> (Vec<usize>, Vec<usize>) {
+    (plan.dead_states().collect(), plan.unreached_states().collect())
+}
+
+#[test]
+fn dead_states_are_told_apart_by_whether_they_are_reached() {
+    assert_eq!(dead_states(Plan::new(&R_PLAN)), (vec![29], vec![31]));
+    assert_eq!(dead_states(Plan::new(&U_PLAN)), (vec![], vec![31]));
+    for (set, expected) in [(R, (vec![29], vec![31])), (U, (vec![], vec![31]))] {
+        let mut words = [0; 64];
+        let length = plain::analyse(&set, &mut [plain::NOT_ANALYSED; STATES_OF_R], &mut words).unwrap();
+        assert_eq!(dead_states(Plan::new(&words[..length])), expected);
+    }
+    // Of either kind any number, each in its order, whatever the other has.
+    let words = [0x90000002, 0x90000007, 0xA0000000, 0xA0000002, 0xAFFFFFFF, 0x50000005];
+    assert_eq!(dead_states(Plan::new(&words)), (vec![2, 7], vec![0, 2, 0x0FFF_FFFF]));
 }
 
 #[test]

@@ -41,7 +41,8 @@ pub fn words(random: &mut Random, input: u64) -> Vec<u32> {
     match input % 16 {
         0..=3 => sized(random, &[12, 50, 200, 200, 600, 2000]),
         4 => few_devices(random),
-        5 | 6 => crossing(random),
+        5 => crossing(random),
+        6 => pocket(random),
         7 => family(random, false),
         8..=10 => faulty(random, 1 + (round % FAULTS) as usize),
         11 | 12 => damaged(random),
@@ -162,10 +163,62 @@ fn crossing(random: &mut Random) -> Vec<u32> {
     words_of(&capacities, &lists)
 }
 
+/// The tasks of two sets of three devices. The first has a dead state that is reached and one that isn't, the second one that isn't and no other.
+fn pockets() -> [[Vec<u32>; 2]; 2] {
+    [
+        [
+            vec![claim(1), claim(0), claim(2), release(1), claim(1), release(0), release(1), release(2)],
+            vec![claim(1), claim(0), release(0), claim(2), release(2), release(1)],
+        ],
+        [
+            vec![claim(2), claim(1), release(2), claim(0), release(1), release(0)],
+            vec![claim(2), claim(1), release(1), claim(0), claim(1), release(2), release(1), release(0)],
+        ],
+    ]
+}
+
+/// Biased to dead states that aren't reached, which are rare: near one of the known pockets. Actions next to each other change places, others come before, between or
+/// behind them, the devices have other numbers, and more tasks, idle or not, stand beside.
+fn pocket(random: &mut Random) -> Vec<u32> {
+    const DEVICES: usize = 4;
+    let mut numbers: Vec<usize> = (0..DEVICES).collect();
+    random.shuffle(&mut numbers);
+    let mut tasks = pockets()[random.below(2)].to_vec();
+    for task in &mut tasks {
+        for _ in 0..random.pick(&[0, 0, 0, 1, 2]) {
+            let at = random.between(1, task.len() - 1);
+            if task[at - 1] & 15 != task[at] & 15 {
+                task.swap(at - 1, at);
+            }
+        }
+        // The pocket doesn't use the last device.
+        let (at, turns) = (random.between(0, task.len()), random.pick(&[0, 0, 1, 2]));
+        task.splice(at..at, [claim(DEVICES - 1), release(DEVICES - 1)].repeat(turns));
+        for word in task.iter_mut() {
+            *word = *word & 0xF000_0000 | numbers[(*word & 15) as usize] as u32;
+        }
+    }
+    random.shuffle(&mut tasks);
+    if random.one_in(3) {
+        let all: Vec<usize> = (0..DEVICES).collect();
+        let length = random.pick(&[2, 2, 4]);
+        let other = actions(random, length, &all);
+        tasks.insert(random.below(3), other);
+    }
+    for _ in 0..random.pick(&[0, 0, 0, 1, 2]) {
+        tasks.insert(random.below(tasks.len() + 1), Vec::new());
+    }
+    let mut capacities = vec![1; DEVICES];
+    if random.one_in(8) {
+        capacities[random.below(DEVICES)] = 2;
+    }
+    words_of(&capacities, &tasks)
+}
+
 /// Known families at random sizes; the largest grids there are if `whole`.
 fn family(random: &mut Random, whole: bool) -> Vec<u32> {
     let repeat = |times: usize, actions: &[u32]| -> Vec<u32> { (0..times).flat_map(|_| actions.to_vec()).collect() };
-    let (capacities, mut tasks) = match random.below(5) {
+    let (capacities, mut tasks) = match random.below(6) {
         0 => {
             // A ring of philosophers.
             let n = if whole { 6 } else { random.between(2, 4) };
@@ -195,6 +248,15 @@ fn family(random: &mut Random, whole: bool) -> Vec<u32> {
                 task
             };
             (vec![1; 4], vec![task(0, 1, 2), task(1, 0, 3)])
+        }
+        4 => {
+            // For every turn of one task and of the other a dead state that isn't reached, alone or with one that is.
+            let [one, other] = &pockets()[random.below(2)];
+            let turns = |random: &mut Random, task: &[u32]| {
+                let most = 254 / task.len();
+                repeat(if whole { random.between(most - 4, most) } else { random.between(1, 4) }, task)
+            };
+            (vec![1; 3], vec![turns(random, one), turns(random, other)])
         }
         _ => {
             // Fine tiles: hand over hand through two devices, then the other task's two before the last is released.

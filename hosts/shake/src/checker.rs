@@ -27,13 +27,17 @@ pub struct Seen {
     pub refusals: [[u64; 24]; CALLS.len()],
 }
 
+/// The dead states of a set, if it has any.
+const SORTS_OF_DEAD: [&str; 3] = ["all reached", "none reached", "some reached"];
+
 /// What the accepted sets were like.
 #[derive(Default)]
 pub struct Sets {
     accepted: usize,
     with_forbidden: usize,
     with_unsafe: usize,
-    with_dead: usize,
+    /// By the sort of their dead states.
+    with_dead: [usize; SORTS_OF_DEAD.len()],
     over_60000: usize,
     most_words: usize,
     largest_grid: usize,
@@ -45,21 +49,41 @@ impl Sets {
         self.accepted += 1;
         self.with_forbidden += worked.map.contains(&1) as usize;
         self.with_unsafe += worked.map.contains(&2) as usize;
-        self.with_dead += worked.map.contains(&3) as usize;
+        let has = |kind: u32| worked.plan.iter().any(|word| word >> 28 == kind);
+        match (has(sys::DEAD_STATE), has(sys::UNREACHED_STATE)) {
+            (true, false) => self.with_dead[0] += 1,
+            (false, true) => self.with_dead[1] += 1,
+            (true, true) => self.with_dead[2] += 1,
+            (false, false) => {}
+        }
         self.over_60000 += (worked.map.len() > 60_000) as usize;
         self.most_words = self.most_words.max(words.len());
         self.largest_grid = self.largest_grid.max(worked.map.len());
         self.longest_plan = self.longest_plan.max(worked.plan.len());
     }
+
+    /// Which sorts of dead states no set had.
+    pub fn missing(&self) -> impl Iterator<Item = String> + '_ {
+        SORTS_OF_DEAD.iter().zip(self.with_dead).filter(|(_, count)| *count == 0).map(|(sort, _)| format!("a set with dead states, {sort}"))
+    }
 }
 
 impl std::fmt::Display for Sets {
     fn fmt(&self, out: &mut std::fmt::Formatter) -> std::fmt::Result {
+        let dead: Vec<String> = SORTS_OF_DEAD.iter().zip(self.with_dead).map(|(sort, count)| format!("{count} {sort}")).collect();
         write!(
             out,
-            "{} accepted sets: {} with forbidden states, {} with dead ones, {} with unsafe ones that aren't dead; {} grids over 60,000; \
+            "{} accepted sets: {} with forbidden states, {} with dead ones ({}), {} with unsafe ones that aren't dead; {} grids over 60,000; \
              at most {} words, {} states, {} plan words",
-            self.accepted, self.with_forbidden, self.with_dead, self.with_unsafe, self.over_60000, self.most_words, self.largest_grid, self.longest_plan
+            self.accepted,
+            self.with_forbidden,
+            self.with_dead.iter().sum::<usize>(),
+            dead.join(", "),
+            self.with_unsafe,
+            self.over_60000,
+            self.most_words,
+            self.largest_grid,
+            self.longest_plan
         )
     }
 }

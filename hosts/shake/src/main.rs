@@ -68,7 +68,7 @@ fn main() {
             println!("FAIL: the grant number never went from 4,294,967,295 to 0");
             std::process::exit(1);
         }
-        all_seen(&checker.seen, &checker.asked.faults);
+        all_seen(&checker);
         println!("in service all {} bids that were to release something were granted", checker.releases);
         println!("shake: {last} inputs, seed {seed}, {} calls and {long} bids on one record agree", calls(&checker.seen));
     });
@@ -200,8 +200,10 @@ fn print_table(seen: &Seen) {
     }
 }
 
-/// Every answer that docs/SCOPE.md gives a call, and every fault of a plan, must have come, or the run shows less than it says. 15 is the printer's alone.
-fn all_seen(seen: &Seen, faults: &[u64]) {
+/// Every answer that docs/SCOPE.md gives a call, every sort of dead states and every fault of a plan must have come, or the run shows less than it says. 15 is the
+/// printer's alone.
+fn all_seen(checker: &Checker) {
+    let seen = &checker.seen;
     let set: Vec<usize> = (1..=12).collect();
     // The last column: whether the call is lent a set, and so brings its refusals.
     let expected: [(&[usize], &[usize], bool); CALLS.len()] = [
@@ -212,8 +214,8 @@ fn all_seen(seen: &Seen, faults: &[u64]) {
         (&[3], &[13, 16, 18, 20, 21], true),
         (&[9, 10, 11], &[22, 23], false),
     ];
-    let mut missing = Vec::new();
-    for ((name, _), _) in FAULTS.iter().zip(faults).filter(|(_, &count)| count == 0) {
+    let mut missing: Vec<String> = checker.sets.missing().collect();
+    for ((name, _), _) in FAULTS.iter().zip(checker.asked.faults).filter(|(_, count)| *count == 0) {
         missing.push(format!("a plan with the fault {name}"));
     }
     for (call, (kinds, refusals, lent_a_set)) in expected.iter().enumerate() {

@@ -16,7 +16,7 @@ pub fn check(random: &mut Random, words: &[u32], worked: &Worked, set: &Set) -> 
     let analysed = Analysed::new(words).map_err(|refused| refused.to_string())?;
     same("map", analysed.map(), &worked.map)?;
     same("plan", analysed.plan().words(), &worked.plan)?;
-    same("plan put together from its boxes", words_of_plan(analysed.plan()), worked.plan.clone())?;
+    same("plan put together from its boxes and dead states", words_of_plan(analysed.plan()), worked.plan.clone())?;
     parts(analysed.set(), set)?;
     for _ in 0..STATES {
         let rank = random.below(worked.map.len());
@@ -48,6 +48,7 @@ fn words_of_plan(plan: Plan) -> Vec<u32> {
         }
     }
     words.extend(plan.dead_states().map(|rank| 0x9000_0000 | rank as u32));
+    words.extend(plan.unreached_states().map(|rank| 0xA000_0000 | rank as u32));
     words.push(0x5000_0000 | words.len() as u32);
     words
 }

@@ -51,10 +51,12 @@ pub fn any_plan(random: &mut Random, tasks: usize, least: usize) -> Vec<u32> {
     for _ in 0..least + random.below(4) {
         put_box(random, &mut plan, word(7, 0), tasks);
     }
-    let mut rank = random.pick(&[0, 1, 65_535, (1 << 28) - 40]);
-    for _ in 0..least + random.below(4) {
-        plan.push(word(9, rank));
-        rank += random.between(1, 8);
+    for kind in [9, 10] {
+        let mut rank = random.pick(&[0, 1, 65_535, (1 << 28) - 40]);
+        for _ in 0..least + random.below(4) {
+            plan.push(word(kind, rank));
+            rank += random.between(1, 8);
+        }
     }
     plan.push(word(5, plan.len()));
     plan
@@ -110,13 +112,14 @@ pub fn bad_task_counts(random: &mut Random) -> [usize; 9] {
 type Fault = fn(&mut Random, &mut Vec<u32>, usize) -> Option<usize>;
 
 /// Every fault by its name.
-pub const FAULTS: [(&str, Fault); 19] = [
+pub const FAULTS: [(&str, Fault); 20] = [
     ("unknown kind", unknown_kind),
     ("kind out of order", out_of_order),
     ("device over 15", device_over_15),
     ("field in kind 7", field_in_7),
     ("equal ranks", equal_ranks),
     ("falling ranks", falling_ranks),
+    ("reached rank behind another", late_rank),
     ("wrong count in END", wrong_count),
     ("word after END", after_end),
     ("END too early", early_end),
@@ -158,14 +161,14 @@ fn bit_from(random: &mut Random, lowest: usize) -> u32 {
 
 fn unknown_kind(random: &mut Random, plan: &mut Vec<u32>, _tasks: usize) -> Option<usize> {
     let at = pick_at(random, plan, |word| kind(word) != 8)?;
-    plan[at] = random.pick(&[0, 1, 2, 3, 4, 8, 10, 11, 12, 13, 14, 15]) << 28 | field(plan[at]);
+    plan[at] = random.pick(&[0, 1, 2, 3, 4, 8, 11, 12, 13, 14, 15]) << 28 | field(plan[at]);
     Some(at)
 }
 
 /// A box before which one of a later kind, or a rank, stands.
 fn out_of_order(random: &mut Random, plan: &mut Vec<u32>, tasks: usize) -> Option<usize> {
-    let first = |wanted: u32| plan.iter().position(|&word| kind(word) == wanted);
-    let (first_unsafe, first_rank) = (first(7), first(9));
+    let first_unsafe = plan.iter().position(|&word| kind(word) == 7);
+    let first_rank = plan.iter().position(|&word| is_rank(word));
     let late: Vec<(usize, u32)> = (0..plan.len())
         .filter(|&at| kind(plan[at]) != 8)
         .flat_map(|at| [(at, 6), (at, 7)])
@@ -194,17 +197,31 @@ fn field_in_7(random: &mut Random, plan: &mut Vec<u32>, _tasks: usize) -> Option
     Some(at)
 }
 
+/// A dead state, reached or not.
+fn is_rank(word: u32) -> bool {
+    matches!(kind(word), 9 | 10)
+}
+
 fn equal_ranks(random: &mut Random, plan: &mut Vec<u32>, _tasks: usize) -> Option<usize> {
-    let at = pick_at(random, plan, |word| kind(word) == 9)?;
+    let at = pick_at(random, plan, is_rank)?;
     plan.insert(at + 1, plan[at]);
     mended_end(plan);
     Some(at + 1)
 }
 
 fn falling_ranks(random: &mut Random, plan: &mut Vec<u32>, _tasks: usize) -> Option<usize> {
-    let at = pick_at(random, plan, |word| kind(word) == 9 && field(word) > 0)?;
+    let at = pick_at(random, plan, |word| is_rank(word) && field(word) > 0)?;
     let lower = if random.one_in(2) { field(plan[at]) - 1 } else { random.below(field(plan[at]) as usize) as u32 };
-    plan.insert(at + 1, word(9, lower as usize));
+    plan.insert(at + 1, word(kind(plan[at]), lower as usize));
+    mended_end(plan);
+    Some(at + 1)
+}
+
+/// Behind a dead state that isn't reached one that is, whatever its rank.
+fn late_rank(random: &mut Random, plan: &mut Vec<u32>, _tasks: usize) -> Option<usize> {
+    let at = pick_at(random, plan, |word| kind(word) == 10)?;
+    let rank = if random.one_in(2) { random.below(1 << 28) } else { field(plan[at]) as usize };
+    plan.insert(at + 1, word(9, rank));
     mended_end(plan);
     Some(at + 1)
 }
@@ -285,7 +302,7 @@ fn unused_bit(random: &mut Random, plan: &mut Vec<u32>, _tasks: usize) -> Option
 
 fn kind_in_box(random: &mut Random, plan: &mut Vec<u32>, _tasks: usize) -> Option<usize> {
     let (at, _) = any_side(random, plan)?;
-    plan[at] = random.pick(&[0, 1, 4, 5, 6, 7, 9, 10, 12, 15]) << 28 | field(plan[at]);
+    plan[at] = random.pick(&[0, 1, 4, 5, 6, 7, 9, 10, 11, 12, 15]) << 28 | field(plan[at]);
     Some(at)
 }
 
@@ -322,7 +339,10 @@ fn odd_word(random: &mut Random, index: usize) -> u32 {
         1 => word(5, index),
         2 => word(6, random.below(18)),
         3 => word(7, 0),
-        4 => word(9, random.below(9)),
+        4 => {
+            let kind = random.pick(&[9, 10]);
+            word(kind, random.below(9))
+        }
         5 => word(random.below(16) as u32, random.below(3)),
         _ => {
             let (task, lowest, highest) = (random.below(3), random.below(3), random.below(5));

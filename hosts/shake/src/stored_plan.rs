@@ -61,14 +61,16 @@ pub fn read(plan: &[u32], tasks: usize) -> Result<Stored, Refusal> {
             at += 1 + tasks;
         }
     }
-    let mut last = None;
-    while is(at, 9) {
-        let rank = field(plan[at]);
-        if last.is_some_and(|last| rank <= last) {
-            return Err(outside(at));
+    for section in [9, 10] {
+        let mut last = None;
+        while is(at, section) {
+            let rank = field(plan[at]);
+            if last.is_some_and(|last| rank <= last) {
+                return Err(outside(at));
+            }
+            last = Some(rank);
+            at += 1;
         }
-        last = Some(rank);
-        at += 1;
     }
     if !is(at, 5) || field(plan[at]) != at {
         return Err(outside(at));
