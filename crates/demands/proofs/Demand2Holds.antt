@@ -12,7 +12,7 @@ use Rattle.model.specs.State.{stateAt}
 use Rattle.model.specs.Read.{setIn}
 use Rattle.model.specs.Hold.{permitted}
 use Rattle.model.specs.Run.{Dead}
-use Rattle.model.specs.Reach.{isReached}
+use Rattle.model.specs.Reach.{reachedAt}
 use Rattle.model.specs.Plan.{keep, deadOf, reachedOf, unreachedOf, planOf, planWords, planFrom}
 use Rattle.model.specs.Analysis.{analyse}
 use Rattle.model.proofs.Bools.{by-bool, true-not-false}
@@ -44,10 +44,10 @@ module _ (s : Set) where
       Iff·trans (dead-exact ls (permitted s) r) ((λ d. (d .0, both (d .0) .0 (d .1))), (λ d. (d .0, both (d .0) .1 (d .1))))
 
   -- a rank is marked exactly if its state is reached
-  marked-is : (r : ℕ) → r < size ls → isReached s r ≡ true → ReachedRank s r
+  marked-is : (r : ℕ) → r < size ls → reachedAt s r ≡ true → ReachedRank s r
   marked-is r h m = reached-both s (stateAt ls r) .0 (marked-reached ls (permitted s) (start-permitted s) r h m)
 
-  is-marked : (r : ℕ) → r < size ls → ReachedRank s r → isReached s r ≡ true
+  is-marked : (r : ℕ) → r < size ls → ReachedRank s r → reachedAt s r ≡ true
   is-marked r h e =
       rw (rank-stateAt ls r h) at (reached-marked ls (permitted s) (start-permitted s) (reached-both s (stateAt ls r) .1 e) .1)
 
@@ -61,20 +61,20 @@ module _ (s : Set) where
     (λ d. member-kept f (deadOf s) (dead-rank r .1 (d .0)) (tells r (d .0 .0) .1 (d .1))),
   )
 
-  reached-tells : (r : ℕ) → r < size ls → (isReached s r ≡ true) ↔ ReachedRank s r
+  reached-tells : (r : ℕ) → r < size ls → (reachedAt s r ≡ true) ↔ ReachedRank s r
   reached-tells r h = (marked-is r h, is-marked r h)
 
-  unreached-tells : (r : ℕ) → r < size ls → (not (isReached s r) ≡ true) ↔ (ReachedRank s r → ⊥)
+  unreached-tells : (r : ℕ) → r < size ls → (not (reachedAt s r) ≡ true) ↔ (ReachedRank s r → ⊥)
   unreached-tells r h = (
-    (λ e m. true-not-false (isReached s r) (is-marked r h m) (not-true (isReached s r) e)),
-    (λ n. by-bool (isReached s r) (λ e. absurd (n (marked-is r h e))) (λ e. rw e)),
+    (λ e m. true-not-false (reachedAt s r) (is-marked r h m) (not-true (reachedAt s r) e)),
+    (λ n. by-bool (reachedAt s r) (λ e. absurd (n (marked-is r h e))) (λ e. rw e)),
   )
 
   reached-listed : (r : ℕ) → List·Memᴰ r (reachedOf s) ↔ (DeadRank s r × ReachedRank s r)
-  reached-listed = kept-dead (isReached s) (ReachedRank s) reached-tells
+  reached-listed = kept-dead (reachedAt s) (ReachedRank s) reached-tells
 
   unreached-listed : (r : ℕ) → List·Memᴰ r (unreachedOf s) ↔ (DeadRank s r × (ReachedRank s r → ⊥))
-  unreached-listed = kept-dead (λ r. not (isReached s r)) (λ r. ReachedRank s r → ⊥) unreached-tells
+  unreached-listed = kept-dead (λ r. not (reachedAt s r)) (λ r. ReachedRank s r → ⊥) unreached-tells
 
   -- both lists rise as the list of all dead states does
   kept-rising : (f : ℕ → Bool) → Ordered (λ q r. q < r) (keep f (deadOf s))
@@ -86,12 +86,12 @@ module _ (s : Set) where
     rule = refl;
     exact = forbidden-exact s;
     made = refl;
-    rising = kept-rising (isReached s);
+    rising = kept-rising (reachedAt s);
     listed = reached-listed;
-    others-rising = kept-rising (λ r. not (isReached s r));
+    others-rising = kept-rising (λ r. not (reachedAt s r));
     others-listed = unreached-listed;
     in-one = λ r d.
-        by-bool (isReached s r)
+        by-bool (reachedAt s r)
         (λ e. inl (reached-listed r .1 (d, marked-is r (d .0) e)))
         (λ e. inr (unreached-listed r .1 (d, unreached-tells r (d .0) .0 (rw e))));
     not-in-both = λ r m n. unreached-listed r .0 n .1 (reached-listed r .0 m .1);

@@ -43,4 +43,5 @@ examples-hold = record {
   k-refused = refl;
   l-answer = refl;
   l-number = refl;
+  r-plan = refl;
 }

@@ -7,10 +7,11 @@ use Rattle.model.specs.Hold.{heldTo, holdsFrom, holding, held, permitted}
 use Rattle.model.specs.Box.{inside, covered, firstBox}
 use Rattle.model.specs.Forbidden.{choose, prefixed, sidesOf, boxesOf, boxesOfAll, deviceBoxes, forbiddenFrom, forbidden}
 use Rattle.model.specs.Map.{stepsOnto, byte, lastBytes, bytes}
+use Rattle.model.specs.Reach.{steppedOnto, mark, firstMarks}
 use Rattle.model.specs.UnsafeBoxes.{getsBox, blockerLow, unsafeBox, lastUnsafe, unsafeBoxes}
-use Rattle.model.specs.Plan.{ranksFrom}
+use Rattle.model.specs.Plan.{ranksFrom, keep}
 use Rattle.demands.specs.Philosophers.{Philosophers}
 
 pub philosophers-hold : Philosophers
-unfolding any tabulate maximum size isEnd weight stateAt heldTo holdsFrom holding held permitted inside covered firstBox choose prefixed sidesOf boxesOf boxesOfAll deviceBoxes forbiddenFrom forbidden stepsOnto byte lastBytes bytes getsBox blockerLow unsafeBox lastUnsafe unsafeBoxes ranksFrom
-philosophers-hold = record { states = refl; dead = refl; unsafe = refl }
+unfolding any tabulate maximum size isEnd weight stateAt heldTo holdsFrom holding held permitted inside covered firstBox choose prefixed sidesOf boxesOf boxesOfAll deviceBoxes forbiddenFrom forbidden stepsOnto byte lastBytes bytes steppedOnto mark firstMarks getsBox blockerLow unsafeBox lastUnsafe unsafeBoxes ranksFrom keep
+philosophers-hold = record { states = refl; dead = refl; reached = refl; unreached = refl; unsafe = refl }

@@ -20,4 +20,4 @@ use Rattle.demands.specs.Plans.{Plans}
 
 pub plans-hold : Plans
 unfolding any tabulate maximum size lastTask addAction heldAfter note outOfOrder fieldAllowed tooMany fault close readFrom read isEnd weight stateAt heldTo holdsFrom holding unitsHeld permitted inside covered firstBox choose prefixed sidesOf boxesOf boxesOfAll deviceBoxes forbiddenFrom forbidden stepsOnto byte lastBytes bytes steppedOnto mark firstMarks getsBox blockerLow unsafeBox lastUnsafe unsafeBoxes withEnd ranksFrom keep sideWords forbiddenWords unsafeWords planWords _then_ ifGiven mapFits planFits times
-plans-hold = record { m-plan = refl; n-plan = refl; o-plan = refl; p-plan = refl; q-plan = refl; r-plan = refl; u-plan = refl }
+plans-hold = record { m-plan = refl; n-plan = refl; o-plan = refl; p-plan = refl; q-plan = refl; u-plan = refl }

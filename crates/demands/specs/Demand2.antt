@@ -1,5 +1,6 @@
 -- Demand 2: the reader accepts the sets of the layout and no others; the forbidden boxes are those of the published rule, and a state lies in one exactly when
--- some device has more holders than its capacity; dead states are listed once each, ascending, those apart to which no allowed steps lead from the start.
+-- some device has more holders than its capacity; dead states are listed once each, ascending, in kind 9 those to which allowed steps lead from the
+-- start, in kind A the others.
 use Prim.Native.Nat.{ℕ, _<_}
 use mathlib.Core.Path.{_≡_}
 use mathlib.Core.Logic.{_↔_, _⊎_}
@@ -27,7 +28,7 @@ pub record LayoutExact : Type 0 where
   -- well-formed sets with equal words are equal
   pub one-set : (s r : Set) → WellFormed s → WellFormed r → encode s ≡ encode r → s ≡ r
 
--- rank r is that of a dead state of the set s; and of one that is reached
+-- the state of rank r of the set s is dead; and the state of rank r is reached
 abbrev pub DeadRank : Set → ℕ → Type 0
 DeadRank s r = (r < size (lengthsOf s)) × IsDead s (stateAt (lengthsOf s) r)
 

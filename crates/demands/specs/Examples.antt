@@ -1,4 +1,4 @@
--- The desk examples a to l (SCOPE.md, "Desk examples"), on the definitions alone.
+-- The desk examples a to l and r (SCOPE.md, "Desk examples"), on the definitions alone.
 use Prim.Native.Nat.{ℕ}
 use mathlib.Core.Path.{_≡_}
 use mathlib.Core.List.{List, [], _∷_, map}
@@ -62,7 +62,13 @@ e = record {
   tasks = (claim 0 ∷ release 0 ∷ []) ∷ (claim 0 ∷ release 0 ∷ []) ∷ (claim 0 ∷ release 0 ∷ []) ∷ [];
 }
 
--- SCOPE.md, "Desk examples", a to l
+-- example r: two tasks with two dead states, of which only one is reached
+abbrev pub r : List ℕ
+r =
+    0x10000001 ∷ 0x10000001 ∷ 0x10000001 ∷ 0x20000000 ∷ 0x30000001 ∷ 0x30000000 ∷ 0x30000002 ∷ 0x40000001 ∷ 0x30000001 ∷ 0x40000000 ∷ 0x40000001 ∷ 0x40000002
+    ∷ 0x20000000 ∷ 0x30000001 ∷ 0x30000000 ∷ 0x40000000 ∷ 0x30000002 ∷ 0x40000002 ∷ 0x40000001 ∷ 0x50000013 ∷ []
+
+-- SCOPE.md, "Desk examples", a to l and r
 pub record Examples : Type 0 where
   -- a's plan, word for word
   pub a-answer : analysed a 25 11 .answer ≡ given 11
@@ -98,3 +104,7 @@ pub record Examples : Type 0 where
   -- l: FFFFFFFF is followed by 0
   pub l-answer : bid a mapA (recordA 0 0 0xFFFFFFFF) 0 .answer ≡ given granted
   pub l-number : bid a mapA (recordA 0 0 0xFFFFFFFF) 0 .after .grants ≡ 0
+  -- r's dead states: (4, 1), rank 29, to which steps lead from the start, and (4, 3), rank 31, to which none do
+  pub r-plan : analysed r 63 18 .plan
+      ≡ 0x60000000 ∷ 0x80000205 ∷ 0x80010202 ∷ 0x60000001 ∷ 0x80000103 ∷ 0x80010105 ∷ 0x60000001 ∷ 0x80000506 ∷ 0x80010105
+      ∷ 0x60000002 ∷ 0x80000307 ∷ 0x80010404 ∷ 0x70000000 ∷ 0x80000304 ∷ 0x80010103 ∷ 0x9000001D ∷ 0xA000001F ∷ 0x50000011 ∷ []

@@ -1,4 +1,4 @@
--- SCOPE.md, "Map": open, unsafe and dead states, and what each byte of the map says.
+-- SCOPE.md, "Map" and "Plan": open, unsafe and dead states, what each byte of the map says, and which states are reached.
 use Prim.Native.Nat.{ℕ, _<_, _≤_}
 use mathlib.Core.Path.{_≡_}
 use mathlib.Core.Logic.{_↔_}
@@ -46,7 +46,7 @@ module _ (s : Set) where
     pub open-state : (x : State) → InGrid (lengthsOf s) x → (at map (rank (lengthsOf s) x) ≡ 0) ↔ IsOpen x
     pub no-other : (x : State) → InGrid (lengthsOf s) x → at map (rank (lengthsOf s) x) ≤ 3
 
--- of the states of a set's grid
+-- of the states of a set
 pub record MapDemand : Type 0 where
   -- the definitions of Run say the same
   pub can-end : (s : Set) (x : State) → InGrid (lengthsOf s) x → CanEnd (lengthsOf s) (permitted s) x ↔ ReachesEnd s x

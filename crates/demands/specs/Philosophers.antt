@@ -4,7 +4,7 @@ use Prim.Native.Nat.{ℕ, _+_, _%_}
 use mathlib.Core.Path.{_≡_}
 use mathlib.Core.List.{[], _∷_, map}
 use Rattle.model.specs.Set.{Set, Task, claim, release, lengthsOf, size}
-use Rattle.model.specs.Plan.{unsafeOf, deadOf}
+use Rattle.model.specs.Plan.{unsafeOf, deadOf, reachedOf, unreachedOf}
 use Rattle.demands.specs.Terms.{_to_}
 
 -- the task between devices i and i + 1, counted round
@@ -18,7 +18,9 @@ five = record { capacities = 1 ∷ 1 ∷ 1 ∷ 1 ∷ 1 ∷ []; tasks = map philo
 -- what their analysis finds
 pub record Philosophers : Type 0 where
   pub states : size (lengthsOf five) ≡ 3125
-  -- the one dead state is that where each task holds its left device: rank 781
+  -- the one dead state is that where each task holds its left device: rank 781, which is reached
   pub dead : deadOf five ≡ 781 ∷ []
+  pub reached : reachedOf five ≡ 781 ∷ []
+  pub unreached : unreachedOf five ≡ []
   -- it is the one unsafe state too
   pub unsafe : unsafeOf five ≡ (1 to 1 ∷ 1 to 1 ∷ 1 to 1 ∷ 1 to 1 ∷ 1 to 1 ∷ []) ∷ []

@@ -1,4 +1,4 @@
--- Seven more plans, word for word. Each fixes an order or a field that the desk examples leave open, by a set whose plan would be another under another reading.
+-- Six more plans, word for word. Each fixes an order or a field that the desk examples leave open, by a set whose plan would be another under another reading.
 use Prim.Native.Nat.{ℕ}
 use mathlib.Core.Path.{_≡_}
 use mathlib.Core.List.{List, [], _∷_}
@@ -40,12 +40,6 @@ q =
     0x10000001 ∷ 0x10000001 ∷ 0x20000000 ∷ 0x30000000 ∷ 0x30000001 ∷ 0x40000001 ∷ 0x40000000
     ∷ 0x20000000 ∷ 0x20000000 ∷ 0x30000001 ∷ 0x30000000 ∷ 0x40000000 ∷ 0x40000001 ∷ 0x5000000D ∷ []
 
--- r: two tasks with two dead states, of which only one is reached
-abbrev pub r : List ℕ
-r =
-    0x10000001 ∷ 0x10000001 ∷ 0x10000001 ∷ 0x20000000 ∷ 0x30000001 ∷ 0x30000000 ∷ 0x30000002 ∷ 0x40000001 ∷ 0x30000001 ∷ 0x40000000 ∷ 0x40000001 ∷ 0x40000002
-    ∷ 0x20000000 ∷ 0x30000001 ∷ 0x30000000 ∷ 0x40000000 ∷ 0x30000002 ∷ 0x40000002 ∷ 0x40000001 ∷ 0x50000013 ∷ []
-
 -- u: two tasks whose only dead state isn't reached
 abbrev pub u : List ℕ
 u =
@@ -80,11 +74,7 @@ pub record Plans : Type 0 where
   pub q-plan : analysed q 25 14 .plan
       ≡ 0x60000000 ∷ 0x80000103 ∷ 0x80010000 ∷ 0x80020202 ∷ 0x60000001 ∷ 0x80000202 ∷ 0x80010000 ∷ 0x80020103
       ∷ 0x70000000 ∷ 0x80000101 ∷ 0x80010000 ∷ 0x80020101 ∷ 0x90000006 ∷ 0x5000000D ∷ []
-  -- dead states in two sections: (4, 1), to which steps lead from the start, and (4, 3), to which none do
-  pub r-plan : analysed r 63 18 .plan
-      ≡ 0x60000000 ∷ 0x80000205 ∷ 0x80010202 ∷ 0x60000001 ∷ 0x80000103 ∷ 0x80010105 ∷ 0x60000001 ∷ 0x80000506 ∷ 0x80010105
-      ∷ 0x60000002 ∷ 0x80000307 ∷ 0x80010404 ∷ 0x70000000 ∷ 0x80000304 ∷ 0x80010103 ∷ 0x9000001D ∷ 0xA000001F ∷ 0x50000011 ∷ []
-  -- (3, 4), to which none do, where no dead state is reached
+  -- the one dead state is (3, 4), and only (3, 3) steps onto it, which is permitted and not reached either
   pub u-plan : analysed u 63 17 .plan
       ≡ 0x60000000 ∷ 0x80000405 ∷ 0x80010407 ∷ 0x60000001 ∷ 0x80000204 ∷ 0x80010202 ∷ 0x60000001 ∷ 0x80000204 ∷ 0x80010506
       ∷ 0x60000002 ∷ 0x80000102 ∷ 0x80010105 ∷ 0x70000000 ∷ 0x80000203 ∷ 0x80010404 ∷ 0xA000001F ∷ 0x50000010 ∷ []

@@ -17,7 +17,7 @@ pub record PlanScan : Type 0 where
   pub section : ℕ
   -- how many sides the last box has so far; the task count where none is missing
   pub sides : ℕ
-  -- the lowest rank of that kind that may come next
+  -- the lowest rank that may come next of the kind in `section`
   pub least : ℕ
   -- whether END came
   pub ended : Bool

@@ -16,7 +16,7 @@ pub(crate) struct Seen {
     pub(crate) section: u32,
     // How many sides the last box has so far; the task count where none is missing.
     pub(crate) sides: usize,
-    // The lowest rank of that kind that may come next.
+    // The lowest rank that may come next of the kind in `section`.
     pub(crate) least: u32,
     // Where the last box begins, and whether its sides so far hold the state and no box before it does.
     pub(crate) start: usize,
