@@ -3,6 +3,7 @@
 //
 //     bench calls FILE..      for each set and call: set, words, call, answer, and nanoseconds of both
 //     bench questions FILE..  for each set's plan and some states: set, tasks, plan words, where the state lies, answer, and nanoseconds of both
+//     bench cleanings FILE..  for each set, which may have devices that no task claims: set, words, words that go, answer, and nanoseconds of both
 //     bench growth FILE..     for each set file FAMILY-SIZE.set: family, size, states, plan words, and nanoseconds of both analyses
 //     bench stack FILE..      for each call: its name, and the most bytes of stack that it took on any of the sets
 //
@@ -77,6 +78,7 @@ fn text(answer: &Answer) -> String {
         sys::IN_FORBIDDEN_BOX => format!("forbidden, word {}", answer.value),
         sys::IN_UNSAFE_BOX => format!("unsafe, word {}", answer.value),
         sys::IN_NO_BOX => "neither".to_string(),
+        sys::CLEANED => format!("{} words", answer.value),
         _ => "restarted".to_string(),
     }
 }
@@ -109,6 +111,10 @@ fn route(record: sys::Record, words: &[u32], map: &[u8], slice: &mut [u8]) -> An
 
 fn locate(state: sys::State, plan: &[u32], tasks: usize) -> Answer {
     unsafe { sys::arbiter_locate(state, plan.as_ptr(), plan.len(), tasks) }
+}
+
+fn clean(words: &[u32], slice: &mut [u32]) -> Answer {
+    unsafe { sys::arbiter_clean(words.as_ptr(), words.len(), slice.as_mut_ptr(), slice.len()) }
 }
 
 // --- Timing ---
@@ -374,6 +380,29 @@ fn questions_on(file: &str) -> Vec<Line> {
     lines
 }
 
+/// One set cleaned, into a slice as long as the set and into one that is too short for any.
+fn cleanings_of(file: &str) -> Vec<Line> {
+    let words = &words_in(file)[..];
+    let set = name_of(file);
+    let line = |name: String, room: usize| {
+        let (mut slice, mut other) = (vec![u32::MAX; room], vec![u32::MAX; room]);
+        let answer = clean(words, &mut slice);
+        let agree = answer == of_length(sys::CLEANED, baseline::clean(words, &mut other)) && slice == other;
+        assert!(agree, "bench: {name}, cleaned: the two differ");
+        let times = best_of(
+            || {
+                let _ = black_box(clean(black_box(words), &mut slice));
+            },
+            || {
+                black_box(baseline::clean(black_box(words), &mut other)).ok();
+            },
+        );
+        let go = if answer.kind == sys::CLEANED { (words.len() - answer.value as usize).to_string() } else { String::new() };
+        Line { text: format!("{name}\t{}\t{go}\t{}", words.len(), text(&answer)), times }
+    };
+    vec![line(set.to_string(), words.len()), line(format!("{set}, slice of one word"), 1)]
+}
+
 /// The lines that each file has.
 fn print_lines(files: &[String], lines: impl Fn(&str) -> Vec<Line>) {
     for Line { text, times: (proved, yardstick) } in files.iter().flat_map(|file| lines(file)) {
@@ -416,8 +445,8 @@ fn stack_of(call: impl FnOnce() -> Answer) -> usize {
 }
 
 fn stack(files: &[String]) {
-    let names = ["arbiter_analyse", "arbiter_read", "arbiter_bid", "arbiter_again", "arbiter_route", "arbiter_locate"];
-    let mut most = [0; 6];
+    let names = ["arbiter_analyse", "arbiter_read", "arbiter_bid", "arbiter_again", "arbiter_route", "arbiter_locate", "arbiter_clean"];
+    let mut most = [0; 7];
     for file in files {
         let words = &words_in(file)[..];
         let (map, tasks, end) = service(words);
@@ -439,6 +468,10 @@ fn stack(files: &[String]) {
         for (_, state) in states_to_ask(&plan, tasks) {
             taken(5, stack_of(|| locate(state, &plan, tasks)));
         }
+        for room in [words.len(), 1] {
+            let mut slice = vec![0u32; room];
+            taken(6, stack_of(|| clean(words, &mut slice)));
+        }
     }
     for (name, bytes) in names.iter().zip(most) {
         println!("{name}\t{bytes}");
@@ -454,6 +487,7 @@ fn main() {
         match arguments[0].as_str() {
             "growth" => print_lines(&arguments[1..], growth_of),
             "questions" => print_lines(&arguments[1..], questions_on),
+            "cleanings" => print_lines(&arguments[1..], cleanings_of),
             "stack" => stack(&arguments[1..]),
             _ => print_lines(&arguments[1..], lines_of),
         }

@@ -1,5 +1,6 @@
 #!/usr/bin/env python3
-"""sets.py DIR: writes the sets that the benchmark runs on, four bytes a word, lowest first: DIR/NAME.set for the table, DIR/growth/FAMILY-SIZE.set for growth."""
+"""sets.py DIR: writes the sets that the benchmark runs on, four bytes a word, lowest first: DIR/NAME.set for the table, DIR/growth/FAMILY-SIZE.set for growth, and
+DIR/clean/NAME.set, with devices that no task claims, for the cleaner."""
 import os
 import random
 import struct
@@ -130,7 +131,13 @@ def tangled(seed, tasks, length, devices):
     return [1] * devices, [random_task(rng, devices, length) for _ in range(tasks)]
 
 
-os.makedirs(os.path.join(sys.argv[1], "growth"), exist_ok=True)
+def spread(tasks):
+    """The tasks with every device number doubled: of twice as many devices every other one is claimed by nobody."""
+    return [[action & 0xF0000000 | 2 * (action & 15) for action in task] for task in tasks]
+
+
+for folder in ("growth", "clean"):
+    os.makedirs(os.path.join(sys.argv[1], folder), exist_ok=True)
 
 # --- The table ---
 
@@ -157,7 +164,7 @@ save("dead_both", *dead_both(31, 42))
 save("longest_accepted", [1] * 16, [[]] * 3 + [[a for i in range(127) for a in (claim(d + i % 8), release(d + i % 8))] for d in (0, 8)] + [[]] * 3)
 # As many words as a list can have before its grid is looked at: 16 devices and eight tasks of 254 actions, 2,057 words, refused with 12. It is read and no more,
 # which is nearly all that a bid costs.
-save("longest", [1] * 16, [pairs(127, [claim(d), release(d)]) for d in range(8)])
+save("longest", [1] * 16, [[a for i in range(127) for a in (claim(d + i % 2 * 8), release(d + i % 2 * 8))] for d in range(8)])
 
 # Eight tasks and few states, so that what the analysis does for each device and each set of tasks weighs most: 16 devices that two tasks claim one after the other, and one
 # device of three units that all eight claim, 70 forbidden boxes.
@@ -170,6 +177,15 @@ for tasks, length, devices, seeds in [(3, 38, 2, [1, 4]), (3, 38, 4, [2, 6]), (3
     for seed in seeds:
         save("tangled_%d_%d_%d" % (tasks, devices, seed), *tangled(seed, tasks, length, devices))
 save("nested", *nested([turned(15, 0), turned(15, 5), turned(15, 10)], 4))
+
+# --- Cleaning ---
+
+# Example a with four devices, of which device 1 and device 3 are claimed by nobody.
+save("clean/a_spread", [1] * 4, spread([[claim(0), claim(1), release(1), release(0)], [claim(1), claim(0), release(0), release(1)]]))
+# As many words as an accepted list could have, 533, of which 8 devices go: as longest_accepted, but that both tasks have the same eight devices.
+save("clean/longest_spread", [1] * 16, spread([[]] * 3 + [[a for i in range(127) for a in (claim(i % 8), release(i % 8))]] * 2 + [[]] * 3))
+# Eight tasks, and 15 of 16 devices go.
+save("clean/pool8_of_16", [1] * 15 + [3], [[claim(15), release(15)]] * 8)
 
 # --- Growth: each family from a few states to nearly as many as there can be ---
 

@@ -1,5 +1,6 @@
 #!/usr/bin/env python3
-"""tables.py calls|questions|stack: reads the lines of `bench calls`, `bench questions` or `bench stack` on standard input and prints them as the tables of docs/PERFORMANCE.md."""
+"""tables.py calls|questions|cleanings|stack: reads the lines of `bench calls`, `bench questions`, `bench cleanings` or `bench stack` on standard input and prints them as the
+tables of docs/PERFORMANCE.md."""
 import sys
 
 CALLS = ("read", "bid", "again", "route")
@@ -39,6 +40,14 @@ def print_questions(rows):
         print_row(name, tasks, words, place, answer, *times)
 
 
+def print_cleanings(rows):
+    """A row a set and a slice, and what a word costs."""
+    print_head("set", "words", "words that go", "answer", "proved, µs", "yardstick, µs", "ratio", "ns a word")
+    for name, words, go, answer, proved, yardstick in rows:
+        times = ("%.2f" % (proved / 1e3), "%.2f" % (yardstick / 1e3), "%.2f" % (proved / yardstick), "%.1f" % (proved / int(words)))
+        print_row(name, words, go, answer, *times)
+
+
 lines = [line.rstrip("\n").split("\t") for line in sys.stdin]
 if sys.argv[1] == "calls":
     measured = [(*line[:4], float(line[4]), float(line[5])) for line in lines]
@@ -49,6 +58,9 @@ if sys.argv[1] == "calls":
 elif sys.argv[1] == "questions":
     print("\n## Questions to a stored plan\n")
     print_questions([(*line[:5], float(line[5]), float(line[6])) for line in lines])
+elif sys.argv[1] == "cleanings":
+    print("\n## Cleaning\n")
+    print_cleanings([(*line[:4], float(line[4]), float(line[5])) for line in lines])
 else:
     print("\n## Stack\n")
     print_head("call", "most measured on the sets above, bytes")

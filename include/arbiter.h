@@ -3,7 +3,7 @@
  * A set is a list of 32-bit words that says which devices there are and in which order each task claims and releases them
  * (docs/AUTHORS.md). arbiter_analyse writes its map, a byte for each state of progress, and its plan, a list of boxes. In service
  * arbiter_bid is asked before every step of a task and says whether it may be made now. arbiter_locate questions a plan that was stored, without
- * its set. docs/HOSTS.md tells the whole life of a set.
+ * its set. arbiter_clean mends a set that was stored with devices which no task claims. docs/HOSTS.md tells the whole life of a set.
  *
  * What every call does and asks:
  * - It uses no heap, no global state, no signal and no callback, and always returns. arbiter_analyse needs some 300 KiB of stack, the others
@@ -33,7 +33,7 @@
 
 /* The version of this header: major times 10,000, minor times 100, patch. Header and library must be of the same one, since structs and
  * numbers may differ between two: compare it with arbiter_version() once, when the host starts, and stop if they differ. */
-#define ARBITER_VERSION 20000
+#define ARBITER_VERSION 30000
 
 /* The limits of a set. */
 #define ARBITER_MAX_WORDS 4096
@@ -47,7 +47,7 @@
 #define ARBITER_FIELDS 0x10000000
 
 /* The kinds of a set's words; a plan ends with END too. */
-#define ARBITER_DEVICE 1  /* field: how many tasks may hold it at once, 1 to 8 */
+#define ARBITER_DEVICE 1  /* field: how many tasks may hold it at once, 1 to 8; some task claims it */
 #define ARBITER_TASK 2    /* field: 0 */
 #define ARBITER_CLAIM 3   /* field: the device */
 #define ARBITER_RELEASE 4 /* field: the device */
@@ -90,9 +90,11 @@
 #define ARBITER_IN_FORBIDDEN_BOX 9 /* arbiter_locate: a forbidden box holds the state; value: the index of the first word of the first that does */
 #define ARBITER_IN_UNSAFE_BOX 10   /* arbiter_locate: an unsafe box holds the state, and no forbidden one; value: the same of the first that does */
 #define ARBITER_IN_NO_BOX 11       /* arbiter_locate: no box holds the state */
+#define ARBITER_CLEANED 12         /* arbiter_clean: the cleaned set is written; value: its number of words */
 
-/* The refusals of a set. The place is the faulty word's index, counted from 0, unless said otherwise.
- * All are the set's fault, and each comes in the same way from every call that is lent that set: return it to its author. */
+/* The refusals of a set, 1 to 12 and 24. The place is the faulty word's index, counted from 0, unless said otherwise.
+ * All are the set's fault, and each comes in the same way from every call that is lent that set: return it to its author. Only arbiter_clean
+ * never brings 24, which it mends. */
 #define ARBITER_NO_WORDS 1            /* place: 0 */
 #define ARBITER_TOO_MANY_WORDS 2      /* place: 4,096 */
 #define ARBITER_WORD_AFTER_END 3
@@ -105,6 +107,7 @@
 #define ARBITER_STILL_HELD 10         /* a task closes, at the next TASK or at END, while it holds something */
 #define ARBITER_NO_END 11             /* place: the number of words */
 #define ARBITER_GRID_TOO_LARGE 12     /* place: END's index */
+#define ARBITER_UNCLAIMED_DEVICE 24   /* place: the number of the lowest device that no task claims; looked at after 11 and before 12 */
 
 /* The refusals of lent slices, input bytes, records and calls. */
 #define ARBITER_MAP_TOO_SHORT 13   /* place: the length that the map needs; lend that much */
@@ -116,6 +119,7 @@
 #define ARBITER_NOT_AT_END 19      /* place: the state's rank; some task isn't finished: bid on */
 #define ARBITER_NO_ROUTE 20        /* place: the state's rank; the state is unsafe: no record in service ever is */
 #define ARBITER_ROUTE_TOO_SHORT 21 /* place: the length that the route needs; lend that much */
+#define ARBITER_CLEAN_TOO_SHORT 25 /* place: the length that the cleaned set needs; lend that much */
 
 /* The refusals of a stored plan. */
 #define ARBITER_BAD_TASK_COUNT 22 /* place: 0; the task count isn't 1 to 8: the host's slip */
@@ -195,13 +199,13 @@ extern "C" {
 /* The library's own version; see ARBITER_VERSION. */
 ARBITER_MUST_USE uint32_t arbiter_version(void);
 
-/* Reads a set. ACCEPTED with its number of states, or REFUSED 1 to 12.
+/* Reads a set. ACCEPTED with its number of states, or REFUSED 1 to 12 or 24.
  * A set that may be empty: ARBITER_LEND(set). */
 ARBITER_MUST_USE arbiter_answer arbiter_read(const uint32_t *set, size_t set_len);
 
-/* Analyses a set. PLANNED with the number of plan words, or REFUSED 1 to 14.
+/* Analyses a set. PLANNED with the number of plan words, or REFUSED 1 to 14 or 24.
  * Accepted: map[0] to map[states - 1] and the plan's words are written; what lies beyond stays as it was.
- * 1 to 13 leave both slices untouched; 14 leaves the finished map, and zeros in the whole plan slice.
+ * 14 leaves the finished map, and zeros in the whole plan slice; the others leave both slices untouched.
  * Fill the map slice with ARBITER_NOT_ANALYSED before. A host that wants no plan lends 0 words for it and goes on at 14.
  * Slices that may be empty: ARBITER_LEND(set), ARBITER_LEND(map), ARBITER_LEND(plan). */
 ARBITER_MUST_USE arbiter_answer arbiter_analyse(const uint32_t *set, size_t set_len, uint8_t *map, size_t map_len, uint32_t *plan,
@@ -211,17 +215,17 @@ ARBITER_MUST_USE arbiter_answer arbiter_analyse(const uint32_t *set, size_t set_
 ARBITER_MUST_USE arbiter_record arbiter_fresh(void);
 
 /* May this task make its next action? GRANTED (the record then counts it as made), FINISHED, BUSY with the device, HELD with the next
- * state's rank, or REFUSED 1 to 13, 16, 17 or 18. Only GRANTED changes the record.
+ * state's rank, or REFUSED 1 to 13, 16, 17, 18 or 24. Only GRANTED changes the record.
  * Slices that may be empty: ARBITER_LEND(set), ARBITER_LEND(map). */
 ARBITER_MUST_USE arbiter_answer arbiter_bid(arbiter_record *record, const uint32_t *set, size_t set_len, const uint8_t *map, size_t map_len,
                                             size_t task);
 
-/* Starts every task anew once all are finished; the grant number stays. RESTARTED, or REFUSED 1 to 12, 16 or 19, which changes nothing.
+/* Starts every task anew once all are finished; the grant number stays. RESTARTED, or REFUSED 1 to 12, 16, 19 or 24, which changes nothing.
  * A set that may be empty: ARBITER_LEND(set). */
 ARBITER_MUST_USE arbiter_answer arbiter_again(arbiter_record *record, const uint32_t *set, size_t set_len);
 
 /* The steps from the record's state to the end, one byte a step: always the lowest task that can go on. ROUTED with their number, or
- * REFUSED 1 to 13, 16, 18, 20 or 21. A route slice of set_len bytes is always long enough. The bytes beyond the route stay as they were;
+ * REFUSED 1 to 13, 16, 18, 20, 21 or 24. A route slice of set_len bytes is always long enough. The bytes beyond the route stay as they were;
  * a refusal fills the whole slice with ARBITER_NO_STEP.
  * Slices that may be empty: ARBITER_LEND(set), ARBITER_LEND(map), ARBITER_LEND(route). */
 ARBITER_MUST_USE arbiter_answer arbiter_route(arbiter_record record, const uint32_t *set, size_t set_len, const uint8_t *map, size_t map_len,
@@ -236,6 +240,15 @@ ARBITER_MUST_USE arbiter_answer arbiter_route(arbiter_record record, const uint3
  * or DEAD, IN_NO_BOX where it has OPEN. Whose plan it is, the words don't say.
  * A plan that may be empty: ARBITER_LEND(plan). arbiter_next_box tells the box at the index. */
 ARBITER_MUST_USE arbiter_answer arbiter_locate(arbiter_state state, const uint32_t *plan, size_t plan_len, size_t tasks);
+
+/* Writes the set again without the devices that no task claims, for sets that were stored before 24 was a refusal; the others are numbered anew,
+ * from 0 in their old order. CLEANED with the number of words written, or REFUSED 1 to 12, by the rules that had no 24, or 25, the last.
+ * A slice of set_len words is always long enough. The words beyond the cleaned set stay as they were; a refusal leaves the whole slice untouched.
+ * arbiter_read accepts what is written. Tasks and actions stay, and each device that is kept has its capacity and its claims. So the cleaned set has
+ * the old one's map, byte for byte, and a record goes on with it; BUSY and the plan's forbidden boxes tell the new device numbers. A set that has no
+ * such device comes back word for word.
+ * Slices that may be empty: ARBITER_LEND(set), ARBITER_LEND(clean). */
+ARBITER_MUST_USE arbiter_answer arbiter_clean(const uint32_t *set, size_t set_len, uint32_t *clean, size_t clean_len);
 
 #ifdef __cplusplus
 }
@@ -275,6 +288,15 @@ static inline size_t arbiter_task_count(const uint32_t *set, size_t set_len) {
 static inline size_t arbiter_device_count(const uint32_t *set, size_t set_len) {
     size_t found = arbiter_count(set, set_len, ARBITER_DEVICE);
     return found < ARBITER_MAX_DEVICES ? found : ARBITER_MAX_DEVICES;
+}
+
+/* 1 if some task claims the device, 0 if not. In a set that arbiter_clean takes, the devices that are claimed are those that it keeps, and the new
+ * number of such a one is how many of the devices before it are claimed. */
+static inline int arbiter_is_claimed(const uint32_t *set, size_t set_len, size_t device) {
+    for (size_t i = 0; i < set_len; i++) {
+        if (arbiter_word_kind(set[i]) == ARBITER_CLAIM && arbiter_word_field(set[i]) == device) return 1;
+    }
+    return 0;
 }
 
 /* The index of the task's first action; its actions stand one after the other. set_len if there is no such task. */
@@ -408,6 +430,7 @@ static inline const char *arbiter_kind_text(uint32_t kind) {
     case ARBITER_IN_FORBIDDEN_BOX: return "in forbidden box";
     case ARBITER_IN_UNSAFE_BOX: return "in unsafe box";
     case ARBITER_IN_NO_BOX: return "in no box";
+    case ARBITER_CLEANED: return "cleaned";
     default: return "no answer has this kind";
     }
 }
@@ -438,6 +461,8 @@ static inline const char *arbiter_refusal_text(uint32_t refusal) {
     case ARBITER_ROUTE_TOO_SHORT: return "the route has more steps than its slice has bytes";
     case ARBITER_BAD_TASK_COUNT: return "a plan is for 1 to 8 tasks";
     case ARBITER_OUTSIDE_LAYOUT: return "no plan for so many tasks goes on like this: it was cut or damaged, or is for another number of tasks";
+    case ARBITER_UNCLAIMED_DEVICE: return "no task claims this device: mend the claim that should name it, or let 'clean < OLDFILE > NEWFILE' take such devices out";
+    case ARBITER_CLEAN_TOO_SHORT: return "the cleaned set has more words than its slice";
     default: return "no refusal has this number";
     }
 }

@@ -23,6 +23,8 @@ into the two slices, then the calls are made in order, accepted or not, on what 
     9 STORE index, word                one word of the plan slice is replaced
    10 KEEP length                      from now on only that much of the plan slice is the stored plan
    11 SWEEP tasks, positions, positions  a question at every state of the tasks up to those positions, the last task's fastest; positions past the tasks are 255
+   12 CLEAN length                     the set is cleaned into a slice of that length, filled with AAAAAAAA before; if accepted, what was written is the set of all later calls
+   13 ANALYSE                          the set is analysed anew into the two slices, filled as at the start
 
 Output, a line each:
     case NUMBER: planned WORDS         or refused N at P
@@ -35,28 +37,36 @@ and for each call that prints
     ANSWER                             for a question: forbidden INDEX, unsafe INDEX, neither or refused N at P
     swept CHECKSUM:DIGITS              for a sweep: the checksum of the indices, a word each, 0 for none, P for a refusal; and for each state
                                        1 forbidden, 2 unsafe, 0 neither, 'x' refused; over 512 states '~' and the checksum of these bytes, 255 for 'x'
+    ANSWER: WORD WORD ..               for a cleaning: cleaned WORDS or refused N at P; the whole slice, as a plan's
+    ANSWER                             for an analysis, planned WORDS or refused N at P, and behind it the lines of the map and the plan
 RECORD, POKE, LEND, STORE and KEEP print nothing. The checksum is FNV-1a of 32 bits over the slice's bytes, a word's lowest byte first, in eight hexadecimal digits.
 """
 
+import functools
 import itertools
 import math
 import os
 import sys
 
 import brute
-from brute import CLAIM, DEVICE, END, FRESH, RELEASE, TASK, Record, Set, grid_of, lengths_of, words_of
+from brute import CLAIM, DEVICE, END, FRESH, RELEASE, TASK, Record, Set, grid_of, lengths_of, word_bytes, words_of
 
 MAX_SET = 4097
 MAX_MAP = 65600
 MAX_PLAN = 16400
-MAX_CALLS = 512
+MAX_CALLS = 514
 MAX_SWEEP = 65536
+# An accepted set has at most 533 words.
+MAX_CLEAN = 540
+
+# A cleaning and an analysis are put before a case's own calls.
+CLEANING_CALLS = 2
 
 # A sweep is printed whole up to this many states, and no route slice is longer.
 ROW = 512
 MAX_ROUTE = ROW
 
-BID, AGAIN, ROUTE, RECORD, POKE, LEND, BID_IN_PLACE, ROUNDS, LOCATE, STORE, KEEP, SWEEP = range(12)
+BID, AGAIN, ROUTE, RECORD, POKE, LEND, BID_IN_PLACE, ROUNDS, LOCATE, STORE, KEEP, SWEEP, CLEAN, ANALYSE = range(14)
 
 MAP_FILL, PLAN_FILL = 0xAA, 0xAAAAAAAA
 
@@ -122,10 +132,6 @@ def fnv(data):
     return value
 
 
-def word_bytes(words):
-    return b"".join(word.to_bytes(4, "little") for word in words)
-
-
 def positions_in(low, high):
     """The eight positions that two words of a call give, a byte each."""
     return tuple(word_bytes([low, high]))
@@ -157,24 +163,39 @@ def record_text(record):
     return "[%s] %d" % (" ".join(str(position) for position in record.positions), record.grants)
 
 
+@functools.lru_cache(maxsize=1)
+def analysed(words, map_length, plan_length):
+    """An analysis into slices that are filled before. The last is kept: most sets are clean, and analysed a second time as they are."""
+    return brute.analyse(words, [MAP_FILL] * map_length, [PLAN_FILL] * plan_length)
+
+
 class Play:
     """One case played: the lines that it must print, and what is asserted on the way."""
 
     def __init__(self, number, case):
-        self.words = case.words
+        self.words = tuple(case.words)
         self.record = FRESH
-        self.lines = []
-        answer, map_, plan = brute.analyse(case.words, [MAP_FILL] * case.map_length, [PLAN_FILL] * case.plan_length)
-        self.answer, self.map, self.lent = answer, map_, len(map_)
-        self.plan, self.kept = plan, len(plan)
-        self.lines.append("case %d: %s" % (number, answer_text(answer)))
-        self.lines.append("map:%s" % map_text(map_))
-        self.lines.append("plan:%s" % plan_text(plan))
+        self.lent, self.kept = case.map_length, case.plan_length
+        self.lengths = case.map_length, case.plan_length
+        self.lines = ["case %d: " % number + self.analyse()] + self.slices()
         for call in case.calls:
             self.call(*call)
         if case.finishes:
-            s = brute.read_set(case.words)
+            s = brute.read_set(self.words)
             assert self.record.positions[: len(s.tasks)] == lengths_of(s), "case %d must end with every task finished" % number
+
+    def analyse(self):
+        answer, self.map, self.plan = analysed(self.words, *self.lengths)
+        return answer_text(answer)
+
+    def slices(self):
+        return ["map:%s" % map_text(self.map), "plan:%s" % plan_text(self.plan)]
+
+    def clean(self, length):
+        answer, slice_ = brute.clean(self.words, [PLAN_FILL] * length)
+        if answer[0] == "cleaned":
+            self.words = tuple(slice_[: answer[1]])
+        return "%s:%s" % (answer_text(answer), plan_text(slice_))
 
     def bid(self, task):
         answer, self.record = brute.bid(self.words, self.map[: self.lent], self.record, task)
@@ -222,6 +243,10 @@ class Play:
             self.kept = a
         elif kind == SWEEP:
             self.lines.append(self.sweep(a, positions_in(b, c)))
+        elif kind == CLEAN:
+            self.lines.append(self.clean(a))
+        elif kind == ANALYSE:
+            self.lines += [self.analyse()] + self.slices()
 
 
 # --- Sets ---
@@ -288,6 +313,20 @@ def tight_set(dice, limit):
         s = random_set(dice, limit)
         if brute.UNSAFE in brute.map_of(s):
             break
+    return s
+
+
+def with_device(s, place, capacity):
+    """The set with one more device in that place, which no task claims; the devices from there on get the next number."""
+    capacities = s.capacities[:place] + [capacity] + s.capacities[place:]
+    return Set(capacities, [[(kind, device + 1 if device >= place else device) for kind, device in task] for task in s.tasks])
+
+
+def unclean_set(dice, limit):
+    """A random set with a device or more put in that no task claims, as far as there is room among 16."""
+    s = random_set(dice, limit)
+    for _ in range(min(dice.pick([1, 1, 2, 3, 16]), 16 - len(s.capacities))):
+        s = with_device(s, dice.below(len(s.capacities) + 1), dice.between(1, 8))
     return s
 
 
@@ -724,7 +763,7 @@ def question_cases(s, asked):
     cases = [calls]
     for plan, questions in asked:
         more = store_calls(now, plan) + questions
-        if len(calls) + len(more) > MAX_CALLS:
+        if len(calls) + len(more) > MAX_CALLS - CLEANING_CALLS:
             calls = []
             cases.append(calls)
             more = store_calls(fresh, plan) + questions
@@ -897,7 +936,7 @@ def short_cases(dice, s):
 
 def refused_case(dice, words):
     """Words that may be refused, with small slices and every kind of call."""
-    s = brute.read_set(words)
+    s = brute.read_set(words, former=True)
     accepted = isinstance(s, Set)
     long_map = min(MAX_MAP, grid_of(s)) if accepted else dice.below(12)
     calls = [(BID, dice.below(9)), (AGAIN,), (ROUTE, dice.below(6)), (BID_IN_PLACE, dice.below(9))]
@@ -971,9 +1010,105 @@ def faulty_cases(dice):
     return cases
 
 
+# --- Cleaning ---
+
+
+def compare_cleaned(s):
+    """What cleaning must leave of a set: the map, the unsafe boxes, the dead states of both kinds, and the forbidden boxes but for their devices' numbers."""
+    new = brute.cleaned(s)
+    if new != s:
+        kept = brute.claimed_devices(s.tasks)
+        assert brute.map_of(new) == brute.map_of(s), s
+        assert brute.forbidden_boxes(new) == [(kept.index(device), box) for device, box in brute.forbidden_boxes(s)], s
+        assert brute.unsafe_boxes(new) == brute.unsafe_boxes(s), s
+        assert rank_parts(brute.plan_of(new))[1:] == rank_parts(brute.plan_of(s))[1:], s
+
+
+def with_cleaning(case):
+    """The case with its set as a stored one: cleaned with a word's room and more, and analysed anew before the case's calls. A set that the former rules refuse is
+    only shown to the cleaner, with a slice of few words or none."""
+    s = brute.read_set(case.words, former=True)
+    first = [(CLEAN, len(case.words) % 4)]
+    if isinstance(s, Set):
+        compare_cleaned(s)
+        first = [(CLEAN, len(case.words) + 1), (ANALYSE,)]
+    return Case(case.words, case.map_length, case.plan_length, first + case.calls, case.finishes)
+
+
+def reading_calls(dice, s):
+    """Every call that reads the set, on the record as it is or another."""
+    calls = [(BID, any_task(dice, s)), (BID_IN_PLACE, any_task(dice, s)), (AGAIN,), (ROUTE, dice.below(4)), (ANALYSE,)]
+    if dice.one_in(2):
+        calls.insert(0, record_call(dice.pick([random_positions, spoilt_positions])(dice, s), dice.bits()))
+    return dice.mixed(calls)
+
+
+def unclean_case(dice, s, calls, finishes=False):
+    """A set with unclaimed devices: calls that bring 24, cleanings with too little room, calls again, and the cleaning; calls before the map is made and after; and a cleaning of
+    the clean set, which leaves it."""
+    need = len(words_of(*brute.cleaned(s)))
+    first = reading_calls(dice, s) + [(CLEAN, length) for length in (0, need - 1, dice.below(need))] + reading_calls(dice, s)
+    first += [(CLEAN, need + dice.pick([0, 0, 1, 2, 5])), (BID, any_task(dice, s)), (ROUTE, dice.below(4)), (ANALYSE,)]
+    first += [(CLEAN, length) for length in (need - 1, need)] + reading_calls(dice, s) + own_plan_calls(s) + [record_call([0] * 8, 0)]
+    compare_cleaned(s)
+    return Case(words_of(*s), grid_of(s) + dice.below(2), plan_length(s) + dice.below(2), first + calls, finishes)
+
+
+def each_alone(count):
+    """Two tasks that claim and release so many devices one after the other, the first half of them and the others."""
+    pairs = [[(CLAIM, device), (RELEASE, device)] for device in range(count)]
+    return Set([1 + device % 8 for device in range(count)], [sum(pairs[: count // 2], []), sum(pairs[count // 2 :], [])])
+
+
+def some_claimed(devices, claimed, tasks):
+    """So many devices of differing capacities, and tasks that each claim these of them together and release them in the same order."""
+    task = [(CLAIM, device) for device in claimed] + [(RELEASE, device) for device in claimed]
+    return Set([1 + device % 3 for device in range(devices)], [task] * tasks)
+
+
+def unclean_sets(dice):
+    """Devices that no task claims in every place and number; none claimed; one of 16; a device that only one task claims, the first, a middle one or the last, with unclaimed
+    devices beside it and without."""
+    sets = [with_device(s, place, dice.between(1, 8)) for s in (crossing(2), ring(3), written_set(BOTH_DEAD[0])) for place in range(len(s.capacities) + 1)]
+    sets += [with_device(each_alone(15), place, dice.between(1, 8)) for place in range(16)]
+    sets += [some_claimed(4, claimed, 2) for count in range(4) for claimed in itertools.combinations(range(4), count)]
+    sets += [some_claimed(16, (device,), 2) for device in range(16)] + [Set([8] * count, [[]] * tasks) for count, tasks in ((1, 1), (2, 3), (16, 8))]
+    pair = [(CLAIM, 1), (RELEASE, 1)]
+    sets += [Set([1, 1, 1], [pair if task == place else [] for task in range(3)]) for place in range(3)]
+    sets += [Set([1, 1], [[(CLAIM, 0), (RELEASE, 0)]] * place + [pair] + [[(CLAIM, 0), (RELEASE, 0)]] * (2 - place)) for place in range(3)]
+    return sets + [with_device(written_set(text), 1, 1) for text in (SEVERAL_BLOCKERS[0], ONLY_UNREACHED[0], ONLY_UNREACHED[6])]
+
+
+def large_unclean_lists():
+    """Grids over 65,536 and as large as there are with unclaimed devices, behind the others and before them; and without an END."""
+    lists = []
+    for lengths in ([254, 254], [254, 254, 2], [12, 70, 70], [10, 58, 100], [254] * 8):
+        s = long_tasks(lengths)
+        for other in (with_device(s, 1, 8), with_device(s, 0, 8), with_device(with_device(s, 0, 1), 2, 1)):
+            lists += [words_of(*other), words_of(*other)[:-1]]
+    return lists
+
+
+def cleaning_cases(dice):
+    """Sets with unclaimed devices, in order and at random; large ones; and damaged ones."""
+    cases = [unclean_case(dice, s, random_calls(dice, s, 6)) for s in unclean_sets(dice)]
+    for _ in range(100):
+        s = unclean_set(dice, dice.pick([30, 60, 120, 240]))
+        cases.append(unclean_case(dice, s, edge_calls(dice, s)))
+    for _ in range(30):
+        s = unclean_set(dice, 120)
+        cases.append(unclean_case(dice, s, round_calls(dice, s, sum(lengths_of(s))), True))
+    for words in large_unclean_lists():
+        cases.append(Case(words, 3, 3, [(BID, 0), (AGAIN,), (ROUTE, 2), (CLEAN, 3), (CLEAN, min(MAX_CLEAN, len(words))), (ANALYSE,), (BID, 0), (AGAIN,), (ROUTE, 2)]))
+    for _ in range(150):
+        cases.append(with_cleaning(refused_case(dice, mutated(dice, words_of(*unclean_set(dice, 60))))))
+    return cases
+
+
 def all_cases():
     dice = Dice(SEED)
-    return named_cases(dice) + dead_cases(dice) + small_cases(dice) + faulty_cases(dice) + large_cases(dice) + stored_cases(dice)
+    cases = named_cases(dice) + dead_cases(dice) + small_cases(dice) + faulty_cases(dice) + large_cases(dice) + stored_cases(dice)
+    return [with_cleaning(case) for case in cases] + cleaning_cases(dice)
 
 
 def swept_states(tasks, low, high):
@@ -996,6 +1131,7 @@ def encoded(cases):
             assert call[0] != STORE or call[1] < case.plan_length
             assert call[0] != KEEP or call[1] <= case.plan_length
             assert call[0] != SWEEP or swept_states(*call[1:]) <= MAX_SWEEP
+            assert call[0] != CLEAN or call[1] <= MAX_CLEAN
             words += call
     return word_bytes(words)
 

@@ -14,7 +14,9 @@ ROOT = os.path.dirname(os.path.dirname(os.path.abspath(__file__)))
 TOOLS = os.path.join(ROOT, "tools")
 sys.path.insert(0, TOOLS)
 
+import clean  # noqa: E402
 import plan  # noqa: E402
+import programs  # noqa: E402
 import set_text  # noqa: E402
 import words  # noqa: E402
 
@@ -22,19 +24,21 @@ PRINTER = os.path.abspath(sys.argv[1]) if len(sys.argv) > 1 else None
 EXAMPLE_A = os.path.join(ROOT, "examples", "a.words")
 EXAMPLE_D = os.path.join(ROOT, "examples", "d.words")
 EXAMPLE_R = os.path.join(ROOT, "examples", "r.words")
+EXAMPLE_S = os.path.join(ROOT, "examples", "s.words")
 
-# Desk examples a and d of docs/SCOPE.md and r of docs/AUTHORS.md, word by word, and the plans of a and r.
+# Desk examples a and d of docs/SCOPE.md and r and s of docs/AUTHORS.md, word by word, and the plans of a and r.
 A = "10000001 10000001 20000000 30000000 30000001 40000001 40000000 20000000 30000001 30000000 40000000 40000001 5000000C"
 D = """10000001 10000001 10000001 20000000 30000002 30000000 40000002 30000001 40000001 40000000
        20000000 30000001 30000002 40000002 30000000 40000000 40000001 50000011"""
 R = """10000001 10000001 10000001 20000000 30000001 30000000 30000002 40000001 30000001 40000000
        40000001 40000002 20000000 30000001 30000000 40000000 30000002 40000002 40000001 50000013"""
+S = "10000001 10000004 10000001 20000000 30000000 30000002 40000002 40000000 20000000 30000002 30000000 40000000 40000002 5000000D"
 A_PLAN = "60000000 80000103 80010202 60000001 80000202 80010103 70000000 80000101 80010101 90000006 5000000A"
 R_PLAN = """60000000 80000205 80010202 60000001 80000103 80010105 60000001 80000506 80010105 60000002 80000307 80010404
             70000000 80000304 80010103 9000001D A000001F 50000011"""
 
 # The limits of a set, and how many refusals there are.
-DEVICES, TASKS, ACTIONS, WORDS, REFUSALS = 16, 8, 255, 4096, 23
+DEVICES, TASKS, ACTIONS, WORDS, REFUSALS = 16, 8, 255, 4096, 25
 
 Ended = namedtuple("Ended", "status output said")
 
@@ -85,10 +89,17 @@ class Case(unittest.TestCase):
         ended = subprocess.run(["sh", "-c", '"$@" ' + redirect, "sh", *command], input=data, stdout=subprocess.PIPE, stderr=subprocess.PIPE, timeout=60)
         return Ended(ended.returncode, ended.stdout, ended.stderr.decode())
 
+    def stand_in(self, output, ending="exit 0"):
+        """A program that keeps its input and prints this."""
+        self.file(output, "output")
+        path = self.file('#!/bin/sh\ncd "%s"\ncat > input\ncat output\n%s\n' % (self.folder, ending), "stand_in")
+        os.chmod(path, 0o755)
+        return path
+
     def assert_complaint(self, ended, *parts, output=b""):
-        """Status 2, and one line on standard error; on standard output nothing, or only what the printer printed."""
+        """Status 2, and one line on standard error; on standard output nothing, or only what the program printed."""
         self.assertEqual((ended.status, ended.output), (2, output), ended.said)
-        self.assertRegex(ended.said, r"\A(words|plan)\.py: .+\n\Z")
+        self.assertRegex(ended.said, r"\A(words|plan|clean)\.py: .+\n\Z")
         for part in parts:
             self.assertIn(part, ended.said)
 
@@ -106,7 +117,7 @@ class Reading(Case):
         return str(raised.exception).replace(path, "FILE")
 
     def test_examples(self):
-        for path, expected in ((EXAMPLE_A, A), (EXAMPLE_D, D), (EXAMPLE_R, R)):
+        for path, expected in ((EXAMPLE_A, A), (EXAMPLE_D, D), (EXAMPLE_R, R), (EXAMPLE_S, S)):
             text = set_text.read_text(path)
             self.assertEqual([word.value for word in text.words], words_in(expected))
             self.assertEqual(text.warnings, [])
@@ -286,15 +297,8 @@ class Words(Case):
 class Plans(Case):
     """plan.py over printers that print what a test wants."""
 
-    def printer(self, output, ending="exit 0"):
-        """A program that keeps its input and prints this."""
-        self.file(output, "output")
-        path = self.file('#!/bin/sh\ncd "%s"\ncat > input\ncat output\n%s\n' % (self.folder, ending), "printer")
-        os.chmod(path, 0o755)
-        return path
-
     def plan(self, output, *arguments, ending="exit 0"):
-        return self.here(plan, "--printer", self.printer(output, ending), *arguments)
+        return self.here(plan, "--printer", self.stand_in(output, ending), *arguments)
 
     def test_whole_plans(self):
         for output in (b"50000000\n", lines_in(A_PLAN), lines_in(R_PLAN)):
@@ -302,12 +306,12 @@ class Plans(Case):
             self.assertEqual(self.kept("input"), bytes_in(A))
 
     def test_as_a_program(self):
-        printer = self.printer(lines_in(A_PLAN))
+        printer = self.stand_in(lines_in(A_PLAN))
         self.assertEqual(self.program(plan, "--printer", printer, EXAMPLE_A), Ended(0, lines_in(A_PLAN), ""))
         self.assertEqual(self.program(plan, "--printer", printer, EXAMPLE_A, redirect="2>&- <&-"), Ended(0, lines_in(A_PLAN), ""))
-        refusal = self.program(plan, "--printer", self.printer("refused 4 at 1\n"), "-", data=b"TASK\n\n60000000\n")
-        self.assertEqual(refusal, Ended(1, b"refused 4 at 1\n", "plan.py: standard input:3: %s\n" % plan.sentence(4)))
-        self.assert_complaint(self.program(plan, "--printer", self.printer(b"6000"), EXAMPLE_A), "neither", output=b"6000")
+        refusal = self.program(plan, "--printer", self.stand_in("refused 4 at 1\n"), "-", data=b"TASK\n\n60000000\n")
+        self.assertEqual(refusal, Ended(1, b"refused 4 at 1\n", "plan.py: standard input:3: %s\n" % programs.sentence(4)))
+        self.assert_complaint(self.program(plan, "--printer", self.stand_in(b"6000"), EXAMPLE_A), "neither", output=b"6000")
 
     def test_outputs_that_are_neither(self):
         whole = lines_in(A_PLAN)
@@ -331,7 +335,7 @@ class Plans(Case):
 
     def test_printers_own_complaint(self):
         """It stands before that of plan.py."""
-        printer = self.printer(b"", ending="echo 'printer: it cannot be read' >&2")
+        printer = self.stand_in(b"", ending="echo 'printer: it cannot be read' >&2")
         ended = self.program(plan, "--printer", printer, EXAMPLE_A)
         self.assertEqual((ended.status, ended.output, ended.said.splitlines()[0]), (2, b"", "printer: it cannot be read"))
 
@@ -339,28 +343,29 @@ class Plans(Case):
         path = self.file("# one\nDEVICE 1\n\nTASK\nCLAIM 0\n# six\nCLAIM 0\nEND\n")
         for output, said in (
             (b"refused 8 at 3\n", ":7: the task claims a device that it holds already"),
-            (b"refused 12 at 4\n", ":8: " + plan.sentence(12)),
+            (b"refused 12 at 4\n", ":8: " + programs.sentence(12)),
+            (b"refused 24 at 0\n", ":2: " + programs.sentence(24)),
             (b"refused 8 at 5\n", ": word 5: the task claims a device that it holds already"),
-            (b"refused 11 at 3\n", ": " + plan.sentence(11)),
-            (b"refused 14 at 3\n", ": " + plan.sentence(14)),
-            (b"refused 99 at 3\n", ": refusal 99, for which %s has no sentence" % plan.HEADER),
+            (b"refused 11 at 3\n", ": " + programs.sentence(11)),
+            (b"refused 14 at 3\n", ": " + programs.sentence(14)),
+            (b"refused 99 at 3\n", ": refusal 99, for which %s has no sentence" % programs.HEADER),
         ):
             self.assertEqual(self.plan(output, path), Ended(1, output, "plan.py: " + path + said + "\n"))
 
     def test_which_places_are_words(self):
         text = set_text.Text("x", [set_text.Word(0, line) for line in range(10, 40)], [], [])
-        at_a_line = [number for number in range(1, REFUSALS + 1) if plan.line_of(text, number, 5) == "x:15"]
-        self.assertEqual(at_a_line, [2, 3, 4, 5, 6, 7, 8, 9, 10, 12])
+        at_a_line = [number for number in range(1, REFUSALS + 1) if programs.line_of(text, number, 5) == "x:15"]
+        self.assertEqual(at_a_line, [2, 3, 4, 5, 6, 7, 8, 9, 10, 12, 24])
 
     def test_sentences(self):
         """Each refusal has one of its own out of the header."""
-        sentences = [plan.sentence(number) for number in range(1, REFUSALS + 1)]
+        sentences = [programs.sentence(number) for number in range(1, REFUSALS + 1)]
         self.assertEqual(len(set(sentences)), REFUSALS)
         self.assertEqual([text for text in sentences if "no sentence" in text], [])
         self.assertEqual(sentences[0], "the set is empty")
         self.assertEqual(sentences[20], "the route has more steps than its slice has bytes")
         for number in (0, REFUSALS + 1):
-            self.assertIn("no sentence", plan.sentence(number))
+            self.assertIn("no sentence", programs.sentence(number))
 
     def test_sentences_in_any_order(self):
         """By their numbers; other functions have other sentences."""
@@ -370,19 +375,19 @@ class Plans(Case):
             'char *another(uint32_t kind) {\n    case ARBITER_Z: return "two";\n}\n',
         ]
         header = self.file("#define ARBITER_Y 12 /* 1 */\n#define ARBITER_X 1\n#define ARBITER_Z 2\n" + "".join(functions))
-        with mock.patch.object(plan, "HEADER", header):
-            self.assertEqual((plan.sentence(1), plan.sentence(12)), ("one", "twelve"))
-            self.assertIn("no sentence", plan.sentence(2))
+        with mock.patch.object(programs, "HEADER", header):
+            self.assertEqual((programs.sentence(1), programs.sentence(12)), ("one", "twelve"))
+            self.assertIn("no sentence", programs.sentence(2))
 
     def test_header_that_cannot_be_read(self):
         for header in (os.path.join(self.folder, "none"), self.folder, self.file(b"\xff\xfe#define", "header")):
-            with mock.patch.object(plan, "HEADER", header):
-                self.assertEqual(plan.sentence(8), "refusal 8, for which %s has no sentence" % header)
+            with mock.patch.object(programs, "HEADER", header):
+                self.assertEqual(programs.sentence(8), "refusal 8, for which %s has no sentence" % header)
 
     def test_bytes(self):
         for data in (bytes_in(A), b"", b"\0\0\0", b"\xff" * 20000):
             path = self.file(data, "x.set")
-            self.assertEqual(self.plan(b"refused 4 at 7\n", "--bytes", path), Ended(1, b"refused 4 at 7\n", "plan.py: %s: word 7: %s\n" % (path, plan.sentence(4))))
+            self.assertEqual(self.plan(b"refused 4 at 7\n", "--bytes", path), Ended(1, b"refused 4 at 7\n", "plan.py: %s: word 7: %s\n" % (path, programs.sentence(4))))
             self.assertEqual(self.kept("input"), data)
         self.assertEqual(self.plan(b"refused 2 at 4096\n", "--bytes", "/dev/zero").status, 1)
 
@@ -403,13 +408,157 @@ class Plans(Case):
     def test_warning_of_a_wrong_count(self):
         path = self.file("TASK\n50000002\n")
         warning = "plan.py: %s:2: warning: END counts 2 words, but 1 stand before it\n" % path
-        self.assertEqual(self.plan(b"refused 6 at 1\n", path), Ended(1, b"refused 6 at 1\n", warning + "plan.py: %s:2: %s\n" % (path, plan.sentence(6))))
+        self.assertEqual(self.plan(b"refused 6 at 1\n", path), Ended(1, b"refused 6 at 1\n", warning + "plan.py: %s:2: %s\n" % (path, programs.sentence(6))))
 
     def test_outputs_that_fail(self):
-        printer = self.printer(lines_in(A_PLAN))
+        printer = self.stand_in(lines_in(A_PLAN))
         for redirect in (">&-", "> /dev/full"):
             self.assert_complaint(self.program(plan, "--printer", printer, EXAMPLE_A, redirect=redirect), "standard output: ")
         self.assert_complaint(self.program(plan, "--help", redirect="> /dev/full"), "standard output: ")
+
+
+class Cleanings(Case):
+    """clean.py over cleaners that write what a test wants."""
+
+    OLD, NEW = bytes_in("10000008 20000000 50000002"), bytes_in("20000000 50000001")
+
+    def clean(self, output, *arguments, ending="exit 0"):
+        return self.here(clean, "--cleaner", self.stand_in(output, ending), *arguments)
+
+    def beside(self):
+        """What stands in the folder that no test put there."""
+        return [name for name in os.listdir(self.folder) if name.endswith(".new")]
+
+    def assert_kept(self, ended, *parts, status=2, output=b""):
+        """Neither cleaned nor changed: the old set is where it was, and nothing beside it."""
+        self.assertEqual((ended.status, ended.output), (status, output), ended.said)
+        for part in parts:
+            self.assertIn(part, ended.said)
+        self.assertEqual((self.kept("x.set"), self.beside()), (self.OLD, []))
+
+    def test_to_standard_output(self):
+        path = self.file(self.OLD, "x.set")
+        for output in (self.NEW, bytes_in(A), b"\0\0\0\x50"):
+            self.assertEqual(self.clean(output, "--bytes", path), Ended(0, output, ""))
+            self.assertEqual(self.kept("input"), self.OLD)
+        self.assertEqual(self.kept("x.set"), self.OLD)
+
+    def test_texts(self):
+        path = self.file("DEVICE 8\nTASK # x\nEND\n")
+        self.assertEqual(self.clean(self.NEW, path), Ended(0, self.NEW, ""))
+        self.assertEqual(self.kept("input"), self.OLD)
+        warned = self.clean(b"refused 6 at 1\n", self.file("TASK\n50000002\n"))
+        self.assertEqual(warned.status, 1)
+        self.assertIn(":2: warning: END counts 2 words", warned.said)
+
+    def test_as_a_program(self):
+        path = self.file(self.OLD, "x.set")
+        cleaner = self.stand_in(self.NEW)
+        self.assertEqual(self.program(clean, "--cleaner", cleaner, "--bytes", "-", data=self.OLD), Ended(0, self.NEW, ""))
+        self.assertEqual(self.program(clean, "--cleaner", cleaner, "--bytes", path, "-o", path), Ended(0, b"", ""))
+        self.assertEqual(self.kept("x.set"), self.NEW)
+        refused = self.program(clean, "--cleaner", self.stand_in("refused 4 at 1\n"), "-", data=b"TASK\n\n60000000\n")
+        self.assertEqual(refused, Ended(1, b"refused 4 at 1\n", "clean.py: standard input:3: %s\n" % programs.sentence(4)))
+
+    def test_into_a_file(self):
+        """A new one, and one that was there, which keeps its permissions; through a link too."""
+        old = self.file(self.OLD, "x.set")
+        new = os.path.join(self.folder, "y.set")
+        self.assertEqual(self.clean(self.NEW, "--bytes", old, "-o", new), Ended(0, b"", ""))
+        self.assertEqual((self.kept("y.set"), self.kept("x.set")), (self.NEW, self.OLD))
+        os.chmod(old, 0o640)
+        link = os.path.join(self.folder, "link.set")
+        os.symlink(old, link)
+        self.assertEqual(self.clean(self.NEW, "--bytes", link, "--output", link), Ended(0, b"", ""))
+        self.assertTrue(os.path.islink(link))
+        self.assertEqual((self.kept("x.set"), os.stat(old).st_mode & 0o777, self.beside()), (self.NEW, 0o640, []))
+
+    def test_refusals(self):
+        path = self.file(self.OLD, "x.set")
+        said = "clean.py: %s: word 7: %s\n" % (path, programs.sentence(4))
+        for arguments in ([], ["-o", path]):
+            refused = self.clean(b"refused 4 at 7\n", "--bytes", path, *arguments)
+            self.assert_kept(refused, status=1, output=b"refused 4 at 7\n")
+            self.assertEqual(refused.said, said)
+        other = os.path.join(self.folder, "y.set")
+        self.assertEqual(self.clean(b"refused 4 at 7\n", "--bytes", path, "-o", other).status, 1)
+        self.assertFalse(os.path.exists(other))
+        text = self.file("# one\nTASK\n\n60000000\n")
+        self.assertEqual(self.clean(b"refused 4 at 1\n", text), Ended(1, b"refused 4 at 1\n", "clean.py: %s:4: %s\n" % (text, programs.sentence(4))))
+
+    def test_outputs_that_are_neither(self):
+        """They go nowhere: half a set is worse than none."""
+        path = self.file(self.OLD, "x.set")
+        whole = bytes_in(A)
+        cut = [whole[:length] for length in (0, 1, 4, 8, len(whole) - 4, len(whole) - 1)]
+        others = [whole + b"\0", b"\0" + whole, whole + whole, bytes_in("50000001"), bytes_in("20000000 40000001"), whole[::-1], b"refused 8 at 3", b"refused 8 at 3\n\n"]
+        for output in cut + others + [b"refused 8 at 3\n" + whole, b" refused 8 at 3\n"]:
+            for arguments in ([], ["-o", path]):
+                self.assert_kept(self.clean(output, "--bytes", path, *arguments), "x.set: what the cleaner wrote is neither")
+
+    def test_cleaners_that_fail(self):
+        path = self.file(self.OLD, "x.set")
+        for ending, status in (("exit 3", 3), ("kill -9 $$", -signal.SIGKILL)):
+            for arguments in ([], ["-o", path]):
+                self.assert_kept(self.clean(self.NEW, "--bytes", path, *arguments, ending=ending), "the cleaner ended with status %d" % status)
+        for cleaner, why in ((self.folder, "Permission denied"), (os.path.join(self.folder, "none"), "No such file")):
+            self.assert_kept(self.here(clean, "--cleaner", cleaner, "--bytes", path, "-o", path), why)
+
+    def test_files_that_cannot_be_replaced(self):
+        path = self.file(self.OLD, "x.set")
+        nowhere, pipe = os.path.join(self.folder, "none", "y.set"), os.path.join(self.folder, "pipe")
+        os.mkfifo(pipe)
+        for output, why in ((self.folder, "it is no plain file"), (pipe, "it is no plain file"), ("", "it is no plain file"), (nowhere, "No such file")):
+            self.assert_kept(self.clean(self.NEW, "--bytes", path, "-o", output), why)
+
+    def test_writes_that_fail(self):
+        """Whatever fails on the way, the old set stays and nothing is left beside it."""
+        path = self.file(self.OLD, "x.set")
+        for name in ("fsync", "chown", "chmod", "replace"):
+            with mock.patch.object(os, name, side_effect=OSError(28, "No space left on device")):
+                self.assert_kept(self.clean_only(path), "x.set: No space left on device")
+        with mock.patch.object(os, "fsync", side_effect=KeyboardInterrupt):
+            self.assertRaises(KeyboardInterrupt, self.clean_only, path)
+        self.assertEqual((self.kept("x.set"), self.beside()), (self.OLD, []))
+
+    def clean_only(self, path):
+        """Over a cleaner made before, since making one needs what a test breaks."""
+        with mock.patch.object(clean, "run", return_value=(self.NEW, 0)):
+            return self.here(clean, "--bytes", path, "-o", path)
+
+    def test_text_in_its_own_place(self):
+        """Bytes would take the place of a text."""
+        text = "DEVICE 8\nTASK\nEND\n"
+        path = self.file(text)
+        self.assert_complaint(self.clean(self.NEW, path, "-o", path), "x.words: it is a text")
+        self.assertEqual(self.kept("x.words"), text.encode())
+        self.assertFalse(os.path.exists(os.path.join(self.folder, "input")))
+
+    def test_texts_and_files_that_are_wrong(self):
+        """The cleaner isn't run."""
+        for arguments, part in (
+            ([self.file("TASK\nEND 1\n")], "x.words:2: '1' can't stand behind END"),
+            ([self.file(self.OLD, "x.set")], "x.set: this is no text"),
+            (["--bytes", self.folder], "Is a directory"),
+            ([], "; --help says how it is used"),
+            (["--bytes", "x", "-o"], "; --help says how it is used"),
+            (["--out", "y", "x"], "; --help says how it is used"),
+        ):
+            self.assert_complaint(self.clean(self.NEW, *arguments), part)
+        self.assertFalse(os.path.exists(os.path.join(self.folder, "input")))
+
+    def test_outputs_that_fail(self):
+        cleaner = self.stand_in(self.NEW)
+        for redirect in (">&-", "> /dev/full"):
+            self.assert_complaint(self.program(clean, "--cleaner", cleaner, EXAMPLE_A, redirect=redirect), "standard output: ")
+        self.assert_complaint(self.program(clean, "--help", redirect="> /dev/full"), "standard output: ")
+
+    def test_hint(self):
+        """Where the program isn't built, how to build it."""
+        missing = os.path.join(self.folder, "clean")
+        with mock.patch.object(programs, "built", return_value=missing):
+            self.assert_complaint(self.here(clean, EXAMPLE_A), "No such file or directory ('rt check clean' builds it)")
+            self.assertNotIn("builds it", self.here(clean, "--cleaner", missing + "er", EXAMPLE_A).said)
 
 
 @unittest.skipUnless(PRINTER, "no printer was named")
@@ -421,7 +570,7 @@ class RealPrinter(Case):
 
     def assert_refused(self, ended, number, place, where):
         self.assertEqual((ended.status, ended.output.decode()), (1, "refused %d at %d\n" % (number, place)))
-        self.assertEqual(ended.said.splitlines()[-1], "plan.py: %s: %s" % (where, plan.sentence(number)))
+        self.assertEqual(ended.said.splitlines()[-1], "plan.py: %s: %s" % (where, programs.sentence(number)))
 
     def test_plans(self):
         self.assertEqual(self.plan(EXAMPLE_A), Ended(0, lines_in(A_PLAN), ""))
@@ -446,9 +595,16 @@ class RealPrinter(Case):
             (9, 2, 3, "DEVICE 1\nTASK\nRELEASE 0\n"),
             (10, 3, 4, "DEVICE 1\nTASK\nCLAIM 0\nEND\n"),
             (12, 514, 516, "# x\nDEVICE 1\n" + long_task * 2 + "TASK\n" + pair + "END\n"),
+            (24, 0, 2, "# x\nDEVICE 8\nTASK\nEND\n"),
+            (24, 1, 4, "DEVICE 1\n\n# the typing slip\nDEVICE 1\nTASK\nCLAIM 0\nRELEASE 0\nEND\n"),
+            (24, 1, 2, "DEVICE 1\nDEVICE 1\nDEVICE 1\n" + long_task * 3 + "END\n"),
         ):
             path = self.file(text)
             self.assert_refused(self.plan(path), number, place, "%s:%d" % (path, line))
+
+    def test_example_of_24(self):
+        self.assert_refused(self.plan(EXAMPLE_S), 24, 1, EXAMPLE_S + ":3")
+        self.assert_refused(self.plan("--bytes", self.file(bytes_in(S))), 24, 1, os.path.join(self.folder, "x.words") + ": word 1")
 
     def test_refusals_without_a_line(self):
         path = self.file("TASK\n# x\n")

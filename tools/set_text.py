@@ -1,4 +1,4 @@
-"""What words.py and plan.py share: sets written as text, complaints of one line, and reading and writing that may fail.
+"""What the tools share: sets written as text, complaints of one line, and reading and writing that may fail.
 
 docs/AUTHORS.md says how a set is written. Everything here that goes wrong is a Complaint, so that no file and no closed output ends in a traceback.
 """

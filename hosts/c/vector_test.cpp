@@ -38,6 +38,13 @@ int main() {
     check(empty.refusal == ARBITER_OUTSIDE_LAYOUT && empty.value == 0, "locate without words");
     check(arbiter_locate(state, ARBITER_LEND(plan.data()), plan.size(), 1).kind == ARBITER_IN_NO_BOX, "locate");
 
+    const std::vector<uint32_t> unclaimed = {0x10000008, 0x20000000, 0x50000002};
+    std::vector<uint32_t> no_clean, clean(2);
+    check(arbiter_clean(ARBITER_LEND(no_set.data()), no_set.size(), clean.data(), clean.size()).refusal == ARBITER_NO_WORDS, "clean without words");
+    arbiter_answer no_slice = arbiter_clean(unclaimed.data(), unclaimed.size(), ARBITER_LEND(no_clean.data()), no_clean.size());
+    check(no_slice.refusal == ARBITER_CLEAN_TOO_SHORT && no_slice.value == clean.size(), "clean without a slice");
+    check(arbiter_clean(unclaimed.data(), unclaimed.size(), clean.data(), clean.size()).kind == ARBITER_CLEANED && clean == set, "clean");
+
     check(ARBITER_LEND(no_plan.data()) != nullptr && ARBITER_LEND(map.data()) == map.data(), "the address that is lent");
     return 0;
 }

@@ -8,7 +8,7 @@ import sys
 from ctypes import POINTER, c_char_p, c_size_t, c_uint8, c_uint32, c_uint64
 
 # The numbers of include/arbiter.h that are used here.
-VERSION = 20000
+VERSION = 30000
 MAX_WORDS = 4096
 NOT_ANALYSED = 0xFF
 DEVICE, TASK, FORBIDDEN_BOX, UNSAFE_BOX, DEAD_STATE, UNREACHED_STATE = 1, 2, 6, 7, 9, 10
@@ -38,6 +38,7 @@ CALLS = {
     "arbiter_again": ([POINTER(Record)] + WORDS, Answer),
     "arbiter_route": ([Record] + WORDS + BYTES + BYTES, Answer),
     "arbiter_locate": ([State] + WORDS + [c_size_t], Answer),  # for hosts that keep plans, which this one doesn't
+    "arbiter_clean": (WORDS + WORDS, Answer),  # for hosts that keep sets
     "arbiter_refusal_text": ([c_uint32], c_char_p),
 }
 

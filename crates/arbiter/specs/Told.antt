@@ -7,7 +7,8 @@ use Rattle.model.specs.Record.{Record}
 use Rattle.model.specs.Analysis.{Analysed}
 use Rattle.model.specs.Broker.{Served}
 use Rattle.model.specs.Route.{Routed}
-use Rattle.model.specs.Told.{Told, tellAnalysis, tellRoute}
+use Rattle.model.specs.Clean.{Cleaned}
+use Rattle.model.specs.Told.{Told, tellAnalysis, tellRoute, tellCleaned}
 use Rattle.arbiter.specs.declared.answers.Answer.{Answer}
 
 -- the struct of three numbers
@@ -25,3 +26,7 @@ ToldServed tells r after s = (r ≡ structOf (tells (s .answer))) × (after ≡ 
 -- the answer, and the slice afterwards, of a route
 abbrev pub ToldRoute : Answer → List ℕ → Routed → Type 0
 ToldRoute r steps a = (r ≡ structOf (tellRoute (a .answer))) × (steps ≡ a .route)
+
+-- the answer, and the slice afterwards, of the cleaner
+abbrev pub ToldCleaned : Answer → List ℕ → Cleaned → Type 0
+ToldCleaned r slice a = (r ≡ structOf (tellCleaned (a .answer))) × (slice ≡ a .slice)

@@ -3,24 +3,26 @@ ghost use mathlib.Core.Path.{_≡_};
 ghost use mathlib.Core.List.{List};
 ghost use Prim.Native.Nat.{ℕ};
 ghost use Rattle.model.specs.Read.{read};
-ghost use Rattle.model.specs.Told.{tellReading, tellAnalysis, tellRoute, tellBid, tellAgain, tellLocation};
+ghost use Rattle.model.specs.Told.{tellReading, tellAnalysis, tellRoute, tellBid, tellAgain, tellLocation, tellCleaned};
 ghost use Rattle.reader.specs.Answer.{answer};
 ghost use Rattle.analysis.specs.Says as analysis-says;
 ghost use Rattle.broker.specs.Says.{bidOf, againOf};
 ghost use Rattle.route.specs.Says as route-says;
 ghost use Rattle.plan_reader.specs.Says as plan-says;
+ghost use Rattle.cleaner.specs.Says as clean-says;
 ghost use Rattle.arbiter.specs.Told.{structOf};
 use analysis::Outcome;
 use broker::AgainAnswer;
 use broker::BidAnswer;
+use cleaner::CleanAnswer;
 use plan_reader::Located;
 use reader::Reading;
 use reader::Verdict;
 use route::RouteAnswer;
 
 // The kinds of an answer. A zeroed answer is a refusal, so a host that asked nothing is granted nothing. The value is a refusal's place, the grid of a set that is
-// read, the number of plan words, the number of a route's steps, the busy device, the rank of a state held back from, or the index
-// of the first word of a box; the other kinds have none.
+// read, the number of plan words, the number of a route's steps, the busy device, the rank of a state held back from, the index
+// of the first word of a box, or the number of a cleaned set's words; the other kinds have none.
 pub const REFUSED: u32 = 0;
 
 pub const ACCEPTED: u32 = 1;
@@ -44,6 +46,8 @@ pub const IN_FORBIDDEN_BOX: u32 = 9;
 pub const IN_UNSAFE_BOX: u32 = 10;
 
 pub const IN_NO_BOX: u32 = 11;
+
+pub const CLEANED: u32 = 12;
 
 // Sixteen bytes without a gap: the kind; the refusal's number, 0 without one; the value, 0 without one.
 #[repr(C)]
@@ -141,5 +145,14 @@ pub(crate) fn of_located(answer: Located) -> Answer
         Located::Unsafe { index } => valued(IN_UNSAFE_BOX, index),
         Located::Neither => plain(IN_NO_BOX),
         Located::Refused { number, place } => refuse(number, place),
+    }
+}
+
+pub(crate) fn of_cleaned(answer: CleanAnswer) -> Answer
+    ensures { λ r. ⌜ r ≡ structOf (tellCleaned (clean-says.answerOf answer)) ⌝ }
+{
+    match answer {
+        CleanAnswer::Cleaned { words } => valued(CLEANED, words),
+        CleanAnswer::Refused { number, place } => refuse(number, place),
     }
 }

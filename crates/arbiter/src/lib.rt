@@ -9,9 +9,10 @@ ghost use Rattle.model.specs.Record.{fresh};
 ghost use Rattle.model.specs.Broker.{bid, again};
 ghost use Rattle.model.specs.Route.{route};
 ghost use Rattle.model.specs.StoredPlan.{locate};
+ghost use Rattle.model.specs.Clean as model-clean;
 ghost use Rattle.model.specs.Told.{VERSION, tellReading, tellBid, tellAgain, tellLocation};
 ghost use Rattle.records.specs.Says.{recordOf};
-ghost use Rattle.arbiter.specs.Told.{structOf, ToldAnalysis, ToldServed, ToldRoute};
+ghost use Rattle.arbiter.specs.Told.{structOf, ToldAnalysis, ToldServed, ToldRoute, ToldCleaned};
 use answers::Answer;
 use records::Record;
 
@@ -34,7 +35,7 @@ pub extern "C" fn arbiter_version() -> u32
 pub extern "C" fn arbiter_read(set: &[u32]) -> Answer
     ensures { λ r. ⌜ r ≡ structOf (tellReading (read (now (set .entry)))) ⌝ }
 {
-    answers::of_reading(reader::read(set))
+    answers::of_reading(reader::read(set, reader::PRESENT))
 }
 
 // The analysis of a set into a map and a plan.
@@ -84,4 +85,12 @@ pub extern "C" fn arbiter_locate(state: State, plan: &[u32], tasks: usize) -> An
 {
     let positions = state.positions;
     answers::of_located(plan_reader::locate(positions, plan, tasks))
+}
+
+// A set without the devices that no task claims, read by the former rules.
+#[no_mangle]
+pub extern "C" fn arbiter_clean(set: &[u32], clean: &mut [u32]) -> Answer
+    ensures { λ r. ⌜ ToldCleaned r (now (clean .exit)) (model-clean.clean (now (set .entry)) (now (clean .entry))) ⌝ }
+{
+    answers::of_cleaned(cleaner::clean(set, clean))
 }

@@ -41,7 +41,7 @@ fn answer_on(shape: Shape, rec: Record) -> AgainAnswer
 pub(crate) fn answer(words: &[u32], rec: Record) -> AgainAnswer
     ensures { λ r. ⌜ againOf r ≡ (read (now (words .entry)) then λ s. againAnswer s (recordOf rec)) ⌝ }
 {
-    let reading = reader::read(words);
+    let reading = reader::read(words, reader::PRESENT);
     let verdict = reading.verdict;
     let shape = reading.shape;
     match verdict {

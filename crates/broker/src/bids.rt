@@ -63,7 +63,7 @@ fn answer_on(words: &[u32], shape: Shape, map: &[u8], rec: Record, task: usize) 
 pub(crate) fn answer(words: &[u32], map: &[u8], rec: Record, task: usize) -> BidAnswer
     ensures { λ r. ⌜ bidOf r ≡ (read (now (words .entry)) then λ s. bidAnswer s (now (map .entry)) (recordOf rec) task) ⌝ }
 {
-    let reading = reader::read(words);
+    let reading = reader::read(words, reader::PRESENT);
     let verdict = reading.verdict;
     let shape = reading.shape;
     match verdict {

@@ -5,6 +5,7 @@ use crate::input::CALL_WORDS;
 use crate::lent;
 use crate::questions;
 use crate::rounds::show_rounds;
+use crate::sets;
 use crate::text;
 use broker::ServedBid;
 use listing::least;
@@ -34,6 +35,10 @@ const KEEP: u32 = 10;
 
 const SWEEP: u32 = 11;
 
+const CLEAN: u32 = 12;
+
+const ANALYSE: u32 = 13;
+
 // The longest route slice: one that a line shows whole.
 const MAX_ROUTE: usize = text::ROW;
 
@@ -45,22 +50,25 @@ struct Call {
     c: u32,
 }
 
-// What the calls of a case go on with: the record, how much of the map is lent, and how much of the plan slice is the stored plan.
+// What the calls of a case go on with: how many words the set has, the record, how much of the map is lent, and how much of the plan slice is the stored plan.
 struct Play {
+    words: usize,
     rec: Record,
     lent: usize,
     kept: usize,
 }
 
-pub fn play_calls(words: &[u32], list: &[u32], map: &mut [u8], plan: &mut [u32]) {
+pub fn play_calls(set: &mut [u32], words: usize, list: &[u32], map: &mut [u8], plan: &mut [u32]) {
     let mut play = Play {
+        words: words,
         rec: Record::fresh(),
         lent: map.len(),
         kept: plan.len(),
     };
+    let calls = list.len() / CALL_WORDS;
     let mut k = 0;
-    while k < list.len() / CALL_WORDS {
-        play = play_call(words, map, plan, play, call_at(list, k * CALL_WORDS));
+    while k < calls {
+        play = play_call(set, map, plan, play, call_at(list, k * CALL_WORDS));
         k += 1;
     }
 }
@@ -76,9 +84,18 @@ fn call_at(list: &[u32], at: usize) -> Call
     }
 }
 
-fn play_call(words: &[u32], map: &mut [u8], plan: &mut [u32], play: Play, call: Call) -> Play {
+fn play_call(set: &mut [u32], map: &mut [u8], plan: &mut [u32], play: Play, call: Call) -> Play {
     let kind = call.kind;
     match kind {
+        CLEAN => {
+            let mut next = play;
+            next.words = sets::clean(set, play.words, call.a as usize);
+            next
+        }
+        ANALYSE => {
+            sets::analyse(set, play.words, map, plan);
+            play
+        }
         POKE => {
             poke(map, call.a as usize, call.b);
             play
@@ -91,7 +108,7 @@ fn play_call(words: &[u32], map: &mut [u8], plan: &mut [u32], play: Play, call: 
             ask(plan, play.kept, call);
             play
         }
-        _ => answer_call(words, map, play, call),
+        _ => answer_call(set, map, play, call),
     }
 }
 
@@ -120,37 +137,20 @@ fn ask(plan: &[u32], kept: usize, call: Call) {
     questions::locate(&plan[..n], call.a as usize, positions);
 }
 
-fn answer_call(words: &[u32], map: &[u8], play: Play, call: Call) -> Play {
+fn answer_call(set: &[u32], map: &[u8], play: Play, call: Call) -> Play {
+    let n = least(play.words, set.len());
     let lent = least(play.lent, map.len());
     let own = play.rec;
-    let kept = play.kept;
     let kind = call.kind;
+    let mut next = play;
     match kind {
-        RECORD => Play {
-            rec: record_of(call.a, call.b, call.c),
-            lent: lent,
-            kept: kept,
-        },
-        LEND => Play {
-            rec: own,
-            lent: call.a as usize,
-            kept: kept,
-        },
-        KEEP => Play {
-            rec: own,
-            lent: lent,
-            kept: call.a as usize,
-        },
-        ROUTE => {
-            show_route(words, &map[..lent], own, call.a as usize);
-            play
-        }
-        _ => Play {
-            rec: show_served(words, &map[..lent], own, call),
-            lent: lent,
-            kept: kept,
-        },
+        RECORD => next.rec = record_of(call.a, call.b, call.c),
+        LEND => next.lent = call.a as usize,
+        KEEP => next.kept = call.a as usize,
+        ROUTE => show_route(&set[..n], &map[..lent], own, call.a as usize),
+        _ => next.rec = show_served(&set[..n], &map[..lent], own, call),
     }
+    next
 }
 
 // The positions of two words, a byte each.

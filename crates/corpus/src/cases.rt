@@ -4,25 +4,23 @@ use crate::input::CALL_WORDS;
 use crate::input::Header;
 use crate::input::read_header;
 use crate::input::read_words;
+use crate::sets;
 use crate::text;
 use listing::least;
 
 // The limits of a case, as tests/make_corpus.py has them.
 const MAX_SET: usize = 4097;
 
-const MAX_CALLS: usize = 512;
+const MAX_CALLS: usize = 514;
 
 const MAX_MAP: usize = 65600;
 
 const MAX_PLAN: usize = 16400;
 
-// Room for a case's words behind its header, and for their bytes.
-const WORDS: usize = MAX_SET + MAX_CALLS * CALL_WORDS;
+// Room for the words of the calls, and for the bytes of the set's words, which may be more.
+const MAX_LIST: usize = MAX_CALLS * CALL_WORDS;
 
-const BYTES: usize = WORDS * listing::WORD_BYTES;
-
-// What a plan slice is filled with before the analysis.
-const PLAN_FILL: u32 = 0xAAAA_AAAA;
+const BYTES: usize = MAX_SET * listing::WORD_BYTES;
 
 pub fn play_all(cases: u32) {
     let mut k = 0;
@@ -34,37 +32,33 @@ pub fn play_all(cases: u32) {
 
 fn play_case(number: u32) {
     let mut bytes = [0u8; BYTES];
-    let mut words = [0u32; WORDS];
-    let mut map = [text::FILL; MAX_MAP];
-    let mut plan = [PLAN_FILL; MAX_PLAN];
+    let mut set = [0u32; MAX_SET];
+    let mut list = [0u32; MAX_LIST];
+    let mut map = [0u8; MAX_MAP];
+    let mut plan = [0u32; MAX_PLAN];
     text::case(number);
     let head = read_header();
-    read_words(head.all_words, &mut bytes, &mut words);
-    play_slices(head, &words, &mut map, &mut plan);
+    read_words(head.set_words, &mut bytes, &mut set);
+    read_words(head.call_words, &mut bytes, &mut list);
+    play_slices(head, &mut set, &list, &mut map, &mut plan);
 }
 
-// What the header gives of each slice: the set's words, behind them the calls, and the slices that are lent.
-fn play_slices(head: Header, words: &[u32], map: &mut [u8], plan: &mut [u32]) {
-    let end = least(head.all_words, words.len());
-    let set_end = least(head.set_words, end);
+// What the header gives of each slice: the words of the calls, and the slices that are lent.
+fn play_slices(head: Header, set: &mut [u32], list: &[u32], map: &mut [u8], plan: &mut [u32]) {
+    let own_list = least(head.call_words, list.len());
     let own_map = least(head.map_length, map.len());
     let own_plan = least(head.plan_length, plan.len());
-    show_analysis(
-        &words[..set_end],
+    sets::analyse(
+        set,
+        head.set_words,
         &mut map[..own_map],
         &mut plan[..own_plan],
     );
     play_calls(
-        &words[..set_end],
-        &words[set_end..end],
+        set,
+        head.set_words,
+        &list[..own_list],
         &mut map[..own_map],
         &mut plan[..own_plan],
     );
-}
-
-fn show_analysis(words: &[u32], map: &mut [u8], plan: &mut [u32]) {
-    console::outcome(analysis::analyse(words, map, plan));
-    console::text(b"\n");
-    text::map(map);
-    text::plan(plan);
 }

@@ -4,10 +4,10 @@ use libc::STDIN_FILENO;
 // A call's words: its kind and three values.
 pub const CALL_WORDS: usize = 4;
 
-// How many words the set has, how many all have with the calls, and the lengths of the slices.
+// How many words the set has and how many the calls, and the lengths of the slices.
 pub struct Header {
     pub set_words: usize,
-    pub all_words: usize,
+    pub call_words: usize,
     pub map_length: usize,
     pub plan_length: usize,
 }
@@ -33,7 +33,7 @@ pub fn read_header() -> Header {
     let calls = read_word() as usize;
     Header {
         set_words: set_words,
-        all_words: set_words + calls * CALL_WORDS,
+        call_words: calls * CALL_WORDS,
         map_length: map_length,
         plan_length: plan_length,
     }

@@ -5,6 +5,7 @@ mod input;
 mod lent;
 mod questions;
 mod rounds;
+mod sets;
 mod sums;
 mod text;
 

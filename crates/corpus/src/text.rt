@@ -10,7 +10,7 @@ pub const FILL: u8 = 0xAA;
 // Slices up to these lengths are printed whole, longer ones as a checksum.
 const MAP_SHOWN: usize = 256;
 
-const PLAN_SHOWN: usize = 32;
+const WORDS_SHOWN: usize = 32;
 
 // The most bytes of a slice that a line shows.
 pub const ROW: usize = 512;
@@ -102,18 +102,29 @@ fn character(b: u8) -> u8 {
 // The plan's line.
 pub fn plan(plan: &[u32]) {
     console::text(b"plan:");
-    if PLAN_SHOWN < plan.len() {
-        checksum(b" ~", words_sum(plan));
+    words(plan);
+}
+
+// The words of a cleaned set's slice, and the end of its line.
+pub fn cleaned(slice: &[u32]) {
+    console::text(b":");
+    words(slice);
+}
+
+// The words of a slice and the end of the line.
+fn words(slice: &[u32]) {
+    if WORDS_SHOWN < slice.len() {
+        checksum(b" ~", words_sum(slice));
         return;
     }
-    hex_words(plan);
+    hex_words(slice);
     console::text(b"\n");
 }
 
-fn hex_words(plan: &[u32]) {
+fn hex_words(slice: &[u32]) {
     let mut i = 0;
-    while i < plan.len() {
-        hex(plan[i]);
+    while i < slice.len() {
+        hex(slice[i]);
         i += 1;
     }
 }

@@ -8,6 +8,7 @@ use lib.ListN.{length, drop}
 use borrow.Author.Tests.{not-true}
 use Rattle.model.specs.Answer.{given}
 use Rattle.model.specs.Set.{Set, lengthsOf, size}
+use Rattle.model.specs.Layout.{Rules, present, former}
 use Rattle.model.specs.State.{stateAt}
 use Rattle.model.specs.Read.{setIn}
 use Rattle.model.specs.Hold.{permitted}
@@ -27,7 +28,7 @@ use Rattle.model.proofs.ReadAccepts.{read-complete, encode-injective}
 use Rattle.model.proofs.ReadExact.{read-sound}
 use Rattle.model.proofs.Outcome.{accepted-made}
 use Rattle.demands.specs.Terms.{Ordered}
-use Rattle.demands.specs.Demand2.{DeadRank, ReachedRank, PlanExact, Demand2}
+use Rattle.demands.specs.Demand2.{LayoutExact, DeadRank, ReachedRank, PlanExact, Demand2}
 use Rattle.demands.specs.MapDemand.{IsDead}
 use Rattle.demands.proofs.Orders.{ascending-ordered}
 use Rattle.demands.proofs.MapDemandHolds.{dead-both, reached-both}
@@ -105,9 +106,13 @@ plan-left words map plan n e =
     let s = setIn words in
     ap planFrom (r .1) ∙ plan-of-back s (read-sound words s (r .0 .is-read) .1) (drop (length (planWords (planOf s))) plan)
 
+layout-exact : (rules : Rules) → LayoutExact rules
+layout-exact rules = record { accepts = read-complete rules; no-others = read-sound; one-set = encode-injective }
+
 pub demand2 : Demand2
 demand2 = record {
-  layout = record { accepts = read-complete; no-others = read-sound; one-set = encode-injective };
+  layout = layout-exact present;
+  former-layout = layout-exact former;
   of-set = plan-exact;
   plan = λ words map plan n e. rw (plan-left words map plan n e) (plan-exact (setIn words));
 }

@@ -1,8 +1,8 @@
 -- The examples hold: each by computing the definitions.
 use mathlib.Core.Path.{refl}
-use Rattle.model.specs.Below.{any, tabulate, maximum}
-use Rattle.model.specs.Set.{deviceOf, size}
-use Rattle.model.specs.Read.{lastTask, addAction, heldAfter, note, outOfOrder, fieldAllowed, tooMany, fault, close, readFrom, read}
+use Rattle.model.specs.Below.{any, lowest, howMany, tabulate, maximum}
+use Rattle.model.specs.Set.{deviceOf, claims, claimed, size}
+use Rattle.model.specs.Read.{lastTask, addAction, heldAfter, note, outOfOrder, fieldAllowed, tooMany, fault, readFrom, readWords, close, readBy}
 use Rattle.model.specs.State.{isEnd, sum, weight, rank, stateAt}
 use Rattle.model.specs.Hold.{heldTo, holdsFrom, holding, held as unitsHeld, permitted}
 use Rattle.model.specs.Box.{inside, covered, firstBox}
@@ -10,7 +10,8 @@ use Rattle.model.specs.Forbidden.{choose, prefixed, sidesOf, boxesOf, boxesOfAl
 use Rattle.model.specs.Map.{stepsOnto, byte, lastBytes, bytes}
 use Rattle.model.specs.Reach.{steppedOnto, mark, firstMarks}
 use Rattle.model.specs.UnsafeBoxes.{getsBox, blockerLow, unsafeBox, lastUnsafe, unsafeBoxes}
-use Rattle.model.specs.Layout.{withEnd}
+use Rattle.model.specs.Layout.{actionWord, taskWords, body, withEnd}
+use Rattle.model.specs.Clean.{keptFrom, renamed, cleanFits}
 use Rattle.model.specs.Plan.{ranksFrom, keep, sideWords, forbiddenWords, unsafeWords, planWords}
 use Rattle.model.specs.Answer.{_then_, ifGiven}
 use Rattle.model.specs.Record.{misplaced, mapFits, placed}
@@ -20,7 +21,7 @@ use Rattle.model.specs.Route.{stepFrom, walk, walked, routeFrom, routeSteps, ro
 use Rattle.demands.specs.Examples.{answers, Examples}
 
 pub examples-hold : Examples
-unfolding any tabulate maximum deviceOf size lastTask addAction heldAfter note outOfOrder fieldAllowed tooMany fault close readFrom read isEnd sum weight rank stateAt heldTo holdsFrom holding unitsHeld permitted inside covered firstBox choose prefixed sidesOf boxesOf boxesOfAll deviceBoxes forbiddenFrom forbidden stepsOnto byte lastBytes bytes steppedOnto mark firstMarks getsBox blockerLow unsafeBox lastUnsafe unsafeBoxes withEnd ranksFrom keep sideWords forbiddenWords unsafeWords planWords _then_ ifGiven mapFits planFits misplaced placed bidByte bidAnswer isGranted afterCall afterList stepFrom walk walked routeFrom routeSteps routeFits answers
+unfolding any tabulate maximum deviceOf size lastTask addAction heldAfter note outOfOrder fieldAllowed tooMany fault readFrom readWords close readBy claims claimed lowest isEnd sum weight rank stateAt heldTo holdsFrom holding unitsHeld permitted inside covered firstBox choose prefixed sidesOf boxesOf boxesOfAll deviceBoxes forbiddenFrom forbidden stepsOnto byte lastBytes bytes steppedOnto mark firstMarks getsBox blockerLow unsafeBox lastUnsafe unsafeBoxes withEnd ranksFrom keep sideWords forbiddenWords unsafeWords planWords _then_ ifGiven mapFits planFits misplaced placed bidByte bidAnswer isGranted afterCall afterList stepFrom walk walked routeFrom routeSteps routeFits cleanFits keptFrom howMany renamed taskWords body actionWord answers
 examples-hold = record {
   a-answer = refl;
   a-plan = refl;
@@ -37,6 +38,8 @@ examples-hold = record {
   f-plan = refl;
   g-plan = refl;
   g-refused = refl;
+  g-unclaimed = refl;
+  g-cleaned = refl;
   h-refused = refl;
   i-refused = refl;
   j-refused = refl;

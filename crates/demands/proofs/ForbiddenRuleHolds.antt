@@ -4,7 +4,7 @@ use native.Mathlib.Omega.{arith}
 use mathlib.Core.Path.{_≡_}
 use mathlib.Core.List.{[], List·Memᴰ}
 use Rattle.model.specs.Set.{Set, at}
-use Rattle.model.specs.Layout.{WellFormed}
+use Rattle.model.specs.Layout.{Rules, WellFormedBy}
 use Rattle.model.specs.Forbidden.{Forbidden, forbidden}
 use Rattle.model.proofs.Each.{Each, each-place}
 use Rattle.model.proofs.TableOrder.{table-length}
@@ -14,7 +14,7 @@ use Rattle.demands.proofs.BoxList.{Balanced}
 use Rattle.demands.proofs.DeviceList.{device-told, device-listed, from-told, from-listed, from-ordered}
 use Rattle.demands.proofs.TableList.{table-ordered, table-bytes}
 
-module _ (s : Set) (w : WellFormed s) where
+module _ {rules : Rules} (s : Set) (w : WellFormedBy rules s) where
   balances : (d : ℕ) → Each (Balanced d) (s .tasks)
   balances d = each-place (Balanced d) [] (s .tasks) (λ t h. w .each-task t h .balance d)
 
@@ -48,8 +48,8 @@ module _ (s : Set) (w : WellFormed s) where
 
 pub forbidden-rule : ForbiddenRule
 forbidden-rule = record {
-  rule = λ s w f. (rule-told s w f, rule-listed s w f);
-  order = rule-order;
+  rule = λ rules s w f. (rule-told s w f, rule-listed s w f);
+  order = λ rules. rule-order;
   entries = table-length;
   bytes = table-bytes;
   table-order = table-ordered;

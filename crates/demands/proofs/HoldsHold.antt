@@ -37,7 +37,7 @@ unfolding any size isEnd weight stateAt heldTo holdsFrom holding held permitted 
 holds-hold = record {
   twice-holds = refl;
   twice-map = refl;
-  holds-right = λ s w. record {
+  holds-right = λ rules s w. record {
     after = λ t d k h l.
         let b = w .each-task t h .balance d in
         rw (holds-walk d k (taskAt s t) b l) (walk-still d (taskAt s t) k l);

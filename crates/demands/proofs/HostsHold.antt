@@ -14,6 +14,7 @@ use Rattle.model.specs.Told.{
   tellBid,
   tellAgain,
   tellLocation,
+  tellCleaned,
   hear,
   bidHeard,
   locationHeard,
@@ -33,6 +34,11 @@ hears-route : (a : Answer ℕ) → hearNumber (tellRoute a) ≡ a
 unfolding tell hear
 hears-route (given n) = refl
 hears-route (refused n p) = refl
+
+hears-cleaned : (a : Answer ℕ) → hearNumber (tellCleaned a) ≡ a
+unfolding tell hear
+hears-cleaned (given n) = refl
+hears-cleaned (refused n p) = refl
 
 hears-bid : (a : Answer Bid) → hearBid (tellBid a) ≡ a
 unfolding tell hear bidNumbers bidHeard
@@ -61,7 +67,7 @@ apart tells hears same a b e = sym (same a) ∙ ap hears e ∙ same b
 pub hosts-hold : Hosts
 unfolding tell bidNumbers locationNumbers
 hosts-hold = record {
-  of-refused = λ n p. (refl, refl, refl, refl, refl);
+  of-refused = λ n p. (refl, refl, refl, refl, refl, refl);
   of-planned = λ n. refl;
   of-routed = λ n. refl;
   of-granted = refl;
@@ -72,14 +78,16 @@ hosts-hold = record {
   of-forbidden = λ i. refl;
   of-unsafe = λ i. refl;
   of-neither = refl;
+  of-cleaned = λ n. refl;
   of-accepted = λ s. refl;
   of-faulty = λ n p. refl;
-  heard-told = (hears-analysis, hears-route, hears-bid, hears-again, hears-location);
+  heard-told = (hears-analysis, hears-route, hears-bid, hears-again, hears-location, hears-cleaned);
   told-apart = (
     apart tellAnalysis hearNumber hears-analysis,
     apart tellRoute hearNumber hears-route,
     apart tellBid hearBid hears-bid,
     apart tellAgain hearAgain hears-again,
     apart tellLocation hearLocation hears-location,
+    apart tellCleaned hearNumber hears-cleaned,
   );
 }

@@ -10,12 +10,13 @@ use lib.Seq.{take-length}
 use lib.Dec.{eqb}
 use borrow.Author.Tests.{eqb-true, eq-eqb}
 use Rattle.model.specs.Set.{Action, claim, release, deviceOf, Task, Set, taskAt, actionAt, balanced}
-use Rattle.model.specs.Layout.{word, DEVICE, END, actionWord, taskWords, body, withEnd, WellFormed}
+use Rattle.model.specs.Layout.{word, DEVICE, END, actionWord, taskWords, body, withEnd, Rules, WellFormedBy}
 use Rattle.model.specs.Read.{heldAfter}
 use Rattle.model.proofs.Bools.{by-bool, true-not-false}
 use Rattle.model.proofs.Held.{held-append, releases, balanced-on, balanced-first, balanced-next, balanced-close}
 use Rattle.demands.specs.Terms.{StillHeld}
 use Rattle.demands.specs.Reading.{InLayout}
+use Rattle.demands.proofs.ClaimedDevices.{is-claimed, claimed-test}
 use Rattle.demands.proofs.StillHeldSteps.{walk-still}
 
 -- each action finds its device as it needs it: a claim not held, a release held
@@ -109,8 +110,8 @@ module _ (n : ℕ) (a : Action) where
   unfolding deviceOf
   names f = by-action a (λ d e. rw e (f d (inl e))) (λ d e. rw e (f d (inr e)))
 
-formed-layout : (s : Set) → WellFormed s → InLayout s
-formed-layout s w = record {
+formed-layout : (rules : Rules) (s : Set) → WellFormedBy rules s → InLayout rules s
+formed-layout rules s w = record {
   devices = w .devices;
   capacity = w .capacities;
   tasks = (w .some-task, w .tasks);
@@ -119,15 +120,16 @@ formed-layout s w = record {
   claims = λ t p d h. told t h .claims p d;
   releases = λ t p d h. told t h .releases-held p d;
   closes = λ t d h. told t h .closes d;
+  each-claimed = λ r d h. is-claimed s d (w .each-device r d h);
   grid = w .grid;
 }
   where
     told : (t : ℕ) → t < length (s .tasks) → Sentences (taskAt s t)
     told t h = balanced-sentences (taskAt s t) (w .each-task t h .balance)
 
-layout-formed : (s : Set) → InLayout s → WellFormed s
+layout-formed : (rules : Rules) (s : Set) → InLayout rules s → WellFormedBy rules s
 unfolding body withEnd
-layout-formed s i = record {
+layout-formed rules s i = record {
   capacities = i .capacity;
   devices = i .devices;
   some-task = i .tasks .0;
@@ -138,6 +140,7 @@ layout-formed s i = record {
     balance = sentences-balanced (taskAt s t)
         (record { claims = λ p d. i .claims t p d h; releases-held = λ p d. i .releases t p d h; closes = λ d. i .closes t d h });
   };
+  each-device = λ r d h. claimed-test s d (i .each-claimed r d h);
   grid = i .grid;
   words = omega (
     arith,
@@ -150,5 +153,5 @@ layout-formed s i = record {
   );
 }
 
-pub layout-exact : (s : Set) → WellFormed s ↔ InLayout s
-layout-exact s = (formed-layout s, layout-formed s)
+pub layout-exact : (rules : Rules) (s : Set) → WellFormedBy rules s ↔ InLayout rules s
+layout-exact rules s = (formed-layout rules s, layout-formed rules s)

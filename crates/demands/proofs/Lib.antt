@@ -3,6 +3,7 @@ pub mod PhilosophersHold
 pub mod PlansHold
 pub mod StillHeldSteps
 pub mod PlacesHold
+pub mod ClaimedDevices
 pub mod LayoutWords
 pub mod LayoutHolds
 pub mod ReadingHolds
@@ -34,10 +35,12 @@ pub mod RouteDemandHolds
 pub mod PrintedNumbers
 pub mod PlanWordsFit
 pub mod PrinterHolds
+pub mod CleanProgramHolds
 pub mod PlanLayoutHolds
 pub mod PlanFaultsHold
 pub mod LiesHold
 pub mod AgreesHolds
 pub mod StoredPlansHold
 pub mod RefusalsHold
+pub mod CleaningHolds
 pub mod HostsHold

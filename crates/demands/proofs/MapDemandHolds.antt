@@ -13,7 +13,7 @@ use Rattle.model.specs.Set.{Set, lengthsOf, at}
 use Rattle.model.specs.State.{State, InGrid, next, unfinished, start, isEnd, sum, rank}
 use Rattle.model.specs.Hold.{permitted}
 use Rattle.model.specs.Run.{CanEnd, is-end, step, Reached, at-start, step-on, allowed, Open, Dead}
-use Rattle.model.specs.Map.{Byte, bytes}
+use Rattle.model.specs.Map.{Byte, bytes, mapOf}
 use Rattle.model.proofs.Bools.{by-bool, true-not-false, and-true, any-true, any-false}
 use Rattle.model.proofs.States.{unfinished-task, next-grid, start-grid}
 use Rattle.model.proofs.StartOpen.{start-permitted}
@@ -148,17 +148,6 @@ module _ (s : Set) where
       by-bool (eqb byte 0) (λ e. let o = says .open-state .0 (eqb-true byte 0 e) in (p, can-end x g .0 (o .1))) λ e.
       absurd (unsafe λ c. eqb-false byte 0 e (says .open-state .1 (p, c)))
 
-pub map-demand : MapDemand
-map-demand = record {
-  can-end = can-end;
-  dead = dead-both;
-  reached = reached-both;
-  reached-by = λ s x. (reached-leads s, λ l. leads-reached s (start (lengthsOf s)) (l .0) x no-step-made (l .1));
-  dead-unsafe = λ s x g d. (d .is-permitted, (λ r. dead-unsafe (lengthsOf s) (permitted s) x (is-dead s x g d) (can-end s x g .1 r)));
-  unsafe-dead = λ s x g. unsafe-dead s (sum (lengthsOf s)) x g (omega arith);
-  none-reached = none-reached;
-}
-
 -- an open state, by the definitions of Run and by its steps
 pub open-both : (s : Set) (x : State) → InGrid (lengthsOf s) x → Open (lengthsOf s) (permitted s) x ↔ IsOpen s x
 open-both s x g = let c = can-end s x g in ((λ o. (o .0, c .0 (o .1))), (λ o. (o .0, c .1 (o .1))))
@@ -179,6 +168,18 @@ bytes-right s m lent = record {
   where
     says : (x : State) → InGrid (lengthsOf s) x → Byte (lengthsOf s) (permitted s) x (at m (rank (lengthsOf s) x))
     says x g = rw (lent .same (rank (lengthsOf s) x) (rank-lt (lengthsOf s) x g)) (map-right (lengthsOf s) (permitted s) x g)
+
+pub map-demand : MapDemand
+map-demand = record {
+  map-bytes = λ s. bytes-right s (mapOf s) (record { room = omega arith; same = λ r h. refl });
+  can-end = can-end;
+  dead = dead-both;
+  reached = reached-both;
+  reached-by = λ s x. (reached-leads s, λ l. leads-reached s (start (lengthsOf s)) (l .0) x no-step-made (l .1));
+  dead-unsafe = λ s x g d. (d .is-permitted, (λ r. dead-unsafe (lengthsOf s) (permitted s) x (is-dead s x g d) (can-end s x g .1 r)));
+  unsafe-dead = λ s x g. unsafe-dead s (sum (lengthsOf s)) x g (omega arith);
+  none-reached = none-reached;
+}
 
 -- the bytes of unsafe states are 2 and 3
 module _ (s : Set) (m : List ℕ) (b : Bytes s m) (x : State) (g : InGrid (lengthsOf s) x) where

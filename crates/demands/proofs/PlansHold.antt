@@ -1,8 +1,8 @@
 -- The seven plans hold, by computing the definitions.
 use mathlib.Core.Path.{refl}
-use Rattle.model.specs.Below.{any, tabulate, maximum}
-use Rattle.model.specs.Set.{size}
-use Rattle.model.specs.Read.{lastTask, addAction, heldAfter, note, outOfOrder, fieldAllowed, tooMany, fault, close, readFrom, read}
+use Rattle.model.specs.Below.{any, lowest, tabulate, maximum}
+use Rattle.model.specs.Set.{claims, claimed, size}
+use Rattle.model.specs.Read.{lastTask, addAction, heldAfter, note, outOfOrder, fieldAllowed, tooMany, fault, readFrom, readWords, close, readBy}
 use Rattle.model.specs.State.{isEnd, weight, stateAt}
 use Rattle.model.specs.Hold.{heldTo, holdsFrom, holding, held as unitsHeld, permitted}
 use Rattle.model.specs.Box.{inside, covered, firstBox}
@@ -19,5 +19,5 @@ use Rattle.demands.specs.Terms.{times}
 use Rattle.demands.specs.Plans.{Plans}
 
 pub plans-hold : Plans
-unfolding any tabulate maximum size lastTask addAction heldAfter note outOfOrder fieldAllowed tooMany fault close readFrom read isEnd weight stateAt heldTo holdsFrom holding unitsHeld permitted inside covered firstBox choose prefixed sidesOf boxesOf boxesOfAll deviceBoxes forbiddenFrom forbidden stepsOnto byte lastBytes bytes steppedOnto mark firstMarks getsBox blockerLow unsafeBox lastUnsafe unsafeBoxes withEnd ranksFrom keep sideWords forbiddenWords unsafeWords planWords _then_ ifGiven mapFits planFits times
+unfolding any tabulate maximum size lastTask addAction heldAfter note outOfOrder fieldAllowed tooMany fault readFrom readWords close readBy claims claimed lowest isEnd weight stateAt heldTo holdsFrom holding unitsHeld permitted inside covered firstBox choose prefixed sidesOf boxesOf boxesOfAll deviceBoxes forbiddenFrom forbidden stepsOnto byte lastBytes bytes steppedOnto mark firstMarks getsBox blockerLow unsafeBox lastUnsafe unsafeBoxes withEnd ranksFrom keep sideWords forbiddenWords unsafeWords planWords _then_ ifGiven mapFits planFits times
 plans-hold = record { m-plan = refl; n-plan = refl; o-plan = refl; p-plan = refl; q-plan = refl; u-plan = refl }

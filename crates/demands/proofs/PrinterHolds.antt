@@ -5,10 +5,10 @@ use mathlib.Core.Path.{_≡_, refl, sym, ap, _∙_}
 use mathlib.Core.List.{List, [], _∷_, _++_, map, flatten}
 use lib.ListN.{length}
 use borrow.Author.Tests.{lt-ltb, le-ltb}
-use Rattle.model.specs.Below.{any, tabulate, maximum}
+use Rattle.model.specs.Below.{any, lowest, tabulate, maximum}
 use Rattle.model.specs.Answer.{Answer, given, refused, _then_}
-use Rattle.model.specs.Set.{Set, deviceOf, size}
-use Rattle.model.specs.Read.{lastTask, addAction, heldAfter, note, outOfOrder, fieldAllowed, tooMany, fault, close, readFrom, read}
+use Rattle.model.specs.Set.{deviceOf, Set, claims, claimed, size}
+use Rattle.model.specs.Read.{lastTask, addAction, heldAfter, note, outOfOrder, fieldAllowed, tooMany, fault, readFrom, readWords, close, readBy, read}
 use Rattle.model.specs.State.{isEnd, sum, weight, rank, stateAt}
 use Rattle.model.specs.Hold.{heldTo, holdsFrom, holding, held as unitsHeld, permitted}
 use Rattle.model.specs.Box.{inside, covered, firstBox}
@@ -52,7 +52,7 @@ module _ (p q r s : ℕ) (bs : List ℕ) where
       ∙ ap (λ (ws : List ℕ). (p + q * 0x100 + r * 0x10000 + s * 0x1000000) ∷ ws)
       (tabulate-cong (length bs / 4) (λ k. wordAt more (suc k)) (wordAt bs) (λ k h. later k))
 
-by-fours : (bs : List ℕ) → length bs % 4 ≡ 0 → wordsIn bs ≡ fours bs
+pub by-fours : (bs : List ℕ) → length bs % 4 ≡ 0 → wordsIn bs ≡ fours bs
 unfolding fours tabulate
 by-fours [] e = refl
 by-fours (p ∷ []) e = absurd (let f : ⊥ = omega arith in f)
@@ -86,7 +86,7 @@ module _ (bs : List ℕ) (w : Whole bs) where
     short-plan h = of-fours (given (planWords (planOf s))) (rw (e, le-ltb 16384 (planLength s) h)) ∙ each-line (planWords (planOf s))
 
 pub printing : Printing
-unfolding any tabulate maximum deviceOf size lastTask addAction heldAfter note outOfOrder fieldAllowed tooMany fault close readFrom read isEnd sum weight rank stateAt heldTo holdsFrom holding unitsHeld permitted inside covered firstBox choose prefixed sidesOf boxesOf boxesOfAll deviceBoxes forbiddenFrom forbidden stepsOnto byte lastBytes bytes steppedOnto mark firstMarks getsBox blockerLow unsafeBox lastUnsafe unsafeBoxes withEnd ranksFrom keep sideWords forbiddenWords unsafeWords planWords _then_ wordAt wordsOf toPrint linesOf digits codes textOf lines flatten
+unfolding any tabulate maximum deviceOf size lastTask addAction heldAfter note outOfOrder fieldAllowed tooMany fault readFrom readWords close readBy claims claimed lowest isEnd sum weight rank stateAt heldTo holdsFrom holding unitsHeld permitted inside covered firstBox choose prefixed sidesOf boxesOf boxesOfAll deviceBoxes forbiddenFrom forbidden stepsOnto byte lastBytes bytes steppedOnto mark firstMarks getsBox blockerLow unsafeBox lastUnsafe unsafeBoxes withEnd ranksFrom keep sideWords forbiddenWords unsafeWords planWords _then_ wordAt wordsOf toPrint linesOf digits codes textOf lines flatten
 printing = record {
   too-many = λ bs h. of-none bs 2 4096 (too-many bs h);
   not-words = λ bs h f. of-none bs 15 (length bs / 4) (not-whole bs h f);

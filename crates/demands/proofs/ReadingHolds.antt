@@ -1,8 +1,10 @@
 -- Reading: its examples by computing the definitions.
 use mathlib.Core.Path.{refl}
-use Rattle.model.specs.Below.{any}
-use Rattle.model.specs.Set.{size}
-use Rattle.model.specs.Read.{lastTask, addAction, heldAfter, note, outOfOrder, fieldAllowed, tooMany, fault, close, readFrom, read}
+use mathlib.Core.List.{flatten}
+use Rattle.model.specs.Below.{any, lowest, tabulate}
+use Rattle.model.specs.Answer.{_then_}
+use Rattle.model.specs.Set.{claims, claimed, size}
+use Rattle.model.specs.Read.{lastTask, addAction, heldAfter, note, outOfOrder, fieldAllowed, tooMany, fault, readFrom, readWords, close, readBy}
 use Rattle.model.proofs.Parity.{length-even, grid-odd}
 use Rattle.demands.specs.Terms.{times}
 use Rattle.demands.specs.Reading.{ReadingRight}
@@ -10,12 +12,12 @@ use Rattle.demands.proofs.LayoutWords.{set-words}
 use Rattle.demands.proofs.LayoutHolds.{layout-exact}
 
 pub reading-right : ReadingRight
-unfolding any size lastTask addAction heldAfter note outOfOrder fieldAllowed tooMany fault close readFrom read times
+unfolding any lowest tabulate claims claimed size lastTask addAction heldAfter note outOfOrder fieldAllowed tooMany fault readFrom readWords close readBy _then_ times flatten
 reading-right = record {
   words = set-words;
   layout = layout-exact;
-  even = length-even;
-  odd = grid-odd;
+  even = λ rules. length-even;
+  odd = λ rules. grid-odd;
   accepted = (refl, refl);
   refusal-1 = refl;
   refusal-2 = (refl, refl);
@@ -32,5 +34,9 @@ reading-right = record {
   refusal-11 = (refl, refl, refl);
   refusal-12 = (refl, refl, refl);
   within-12 = (refl, refl);
+  refusal-24 = (refl, refl, refl, refl, refl);
+  within-24 = refl;
+  between-24 = (refl, refl);
+  formerly = (refl, refl);
   first-fault = refl;
 }

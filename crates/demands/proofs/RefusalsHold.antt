@@ -11,7 +11,9 @@ use borrow.Author.Tests.{eqb-true}
 use Rattle.model.specs.Answer.{Answer, given, refused, _then_}
 use Rattle.model.specs.Set.{Set, lengthsOf, at, size}
 use Rattle.model.specs.State.{State, unfinished, isEnd, next, rank}
-use Rattle.model.specs.Read.{read}
+use Rattle.model.specs.Layout.{encode, present, former}
+use Rattle.model.specs.Read.{readBy, read}
+use Rattle.model.specs.Clean.{cleaned, cleanFits, clean}
 use Rattle.model.specs.Plan.{planOf, planWords}
 use Rattle.model.specs.Record.{Record, misplaced, mapFits, placed}
 use Rattle.model.specs.Analysis.{planFits, withRoom, analyse}
@@ -21,7 +23,7 @@ use Rattle.model.specs.StoredPlan.{locate}
 use Rattle.model.proofs.Bools.{by-cases, true-not-false, or-true}
 use Rattle.model.proofs.Answers.{then-refused}
 use Rattle.model.proofs.ReadNumbers.{read-number}
-use Rattle.demands.specs.Refusals.{ofSet, ofAnalysis, ofBid, ofAgain, ofRoute, ofQuestion, Only, Refusals}
+use Rattle.demands.specs.Refusals.{ofFormerSet, ofSet, ofAnalysis, ofBid, ofAgain, ofRoute, ofQuestion, ofCleaner, Only, Refusals}
 use Rattle.demands.proofs.PlanFaultsHold.{plan-faults-hold}
 
 -- a number that a list has
@@ -54,9 +56,9 @@ only-then numbers a f h k =
     only-intro numbers (a then f) λ n p e.
     by-cases (then-refused f a n p .0 e) (only-listed numbers a h n p) (λ r. only-listed numbers (f (r .0)) (k (r .0)) n p (r .2))
 
--- the reading's numbers are 1 to 12, which every list has
-read-listed : (more : List ℕ) (n : ℕ) → (1 ≤ n) × (n ≤ 12) → List·Memᴰ n (ofSet ++ more)
-read-listed more n h =
+-- a reading's numbers are 1 to 12, which every list begins with
+first-listed : (more : List ℕ) (n : ℕ) → (1 ≤ n) × (n ≤ 12) → List·Memᴰ n (ofFormerSet ++ more)
+first-listed more n h =
     from 1 n _ (h .0) λ n₂. from 2 n _ n₂ λ n₃. from 3 n _ n₃ λ n₄. from 4 n _ n₄ λ n₅. from 5 n _ n₅ λ n₆. from 6 n _ n₆ λ n₇.
     from 7 n _ n₇ λ n₈. from 8 n _ n₈ λ n₉. from 9 n _ n₉ λ n₁₀. from 10 n _ n₁₀ λ n₁₁. from 11 n _ n₁₁ λ n₁₂. from 12 n _ n₁₂ λ n₁₃.
     absurd (omega (arith, h .1))
@@ -65,8 +67,23 @@ read-listed more n h =
     from : (a n : ℕ) (l : List ℕ) → a ≤ n → (a < n → List·Memᴰ n l) → List·Memᴰ n (a ∷ l)
     from a n l h k = by-cases (eq-or-lt-of-le h) (λ e. List·Memᴰ·head (sym e)) (λ q. List·Memᴰ·tail (k q))
 
+-- and 24 by the present rules
 read-only : (more words : List ℕ) → Only (ofSet ++ more) (read words)
-read-only more words = only-intro (ofSet ++ more) (read words) λ n p e. read-listed more n (read-number words n p e)
+read-only more words =
+    only-intro (ofSet ++ more) (read words) λ n p e.
+    by-cases (read-number present words n p e) (first-listed ((24 ∷ []) ++ more) n) (λ r. rw (r .1) (listed 24 (ofSet ++ more) refl))
+
+former-only : (more words : List ℕ) → Only (ofFormerSet ++ more) (readBy former words)
+former-only more words =
+    only-intro (ofFormerSet ++ more) (readBy former words) λ n p e.
+    by-cases (read-number former words n p e) (first-listed more n) (λ r. true-not-false former (r .0) refl)
+
+clean-only : (words slice : List ℕ) → Only ofCleaner (clean words slice .answer)
+unfolding cleanFits Only
+clean-only words slice =
+    only-then ofCleaner (readBy former words then cleanFits slice) _
+    (only-then ofCleaner (readBy former words) _ (former-only (25 ∷ []) words) λ s.
+    only-cond ofCleaner (ltb (length slice) (length (encode (cleaned s)))) _ _ (listed 25 ofCleaner refl) tt) λ ws. tt
 
 -- the checks of several calls, by the lists that have their numbers
 module _ (numbers : List ℕ) where
@@ -141,5 +158,7 @@ refusals = record {
   bids = bid-only;
   agains = again-only;
   routes = route-only;
+  reads-formerly = former-only [];
+  cleans = clean-only;
   questions = question-only;
 }

@@ -9,7 +9,7 @@ use lib.Dec.{eqb, ltb}
 use borrow.Author.Tests.{ltb-true, ltb-false, lt-ltb, eqb-true, eqb-false}
 use Rattle.model.specs.Answer.{given, refused}
 use Rattle.model.specs.Set.{claim, release, Set, lengthsOf, taskAt, actionAt, at}
-use Rattle.model.specs.Layout.{WellFormed}
+use Rattle.model.specs.Layout.{Rules, WellFormedBy, WellFormed}
 use Rattle.model.specs.State.{State, InGrid, next, isEnd, rank}
 use Rattle.model.specs.Read.{read}
 use Rattle.model.specs.Analysis.{analyse}
@@ -32,7 +32,7 @@ use Rattle.demands.proofs.MapDemandHolds.{open-both, bytes-right, unsaf
 use Rattle.demands.proofs.AnalysesHold.{map-left}
 use Rattle.demands.proofs.CallsHold.{of-bid, of-again}
 
-release-opens : (s : Set) → WellFormed s → (x : State) → InGrid (lengthsOf s) x → IsOpen s x
+release-opens : {rules : Rules} (s : Set) → WellFormedBy rules s → (x : State) → InGrid (lengthsOf s) x → IsOpen s x
     → (t d : ℕ) → at x t < length (taskAt s t) → actionAt s t (at x t) ≡ release d → IsOpen s (next x t)
 release-opens s w x g o t d l a =
     let u = lt-ltb (at x t) (at (lengthsOf s) t) (omega (arith, length-at s t)) in
@@ -154,7 +154,7 @@ module _ (words m : List ℕ) (s : Set) (is-read : read words ≡ given s) (lent
 
 pub service-holds : Service
 service-holds = record {
-  release-open = release-opens;
+  release-open = λ rules. release-opens;
   service = λ words map plan s e h cs.
       let m = analyse words map plan .map in
       let lent : Carries s m = rw (map-left words map plan s e h) (over-carries s map) in

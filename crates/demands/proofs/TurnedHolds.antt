@@ -1,20 +1,23 @@
--- The refusals 1 to 12 of all words: the reader gives each exactly where SCOPE.md, "Refusals", says.
-use Prim.Native.Nat.{ℕ, zero, suc, _-_, _<_, _≤_}
+-- The refusals 1 to 12 and 24 of all words: the reader gives each exactly where SCOPE.md, "Refusals", says.
+use Prim.Native.Nat.{ℕ, zero, suc, _<_, _≤_}
 use native.Mathlib.Omega.{arith}
 use native.Mathlib.Nat.{eq-or-lt-of-le, le-of-suc-le-suc}
-use mathlib.Core.Path.{_≡_, refl, sym, _∙_}
+use mathlib.Core.Path.{_≡_, refl, sym, ap, _∙_}
 use mathlib.Core.Logic.{_⊎_, inl, inr}
 use mathlib.Core.List.{List, []}
 use lib.ListN.{length, drop}
 use lib.Seq.{take-length, drop-length, drop-cons}
-use borrow.Author.Tests.{lt-ltb, le-ltb, ne-eqb}
+use lib.Dec.{ltb}
+use borrow.Author.Tests.{lt-ltb, le-ltb, ltb-true, ltb-false, ne-eqb}
 use Rattle.model.specs.Set.{Set, lengthsOf, size}
-use Rattle.model.specs.Layout.{encode}
-use Rattle.model.specs.Answer.{given, refused}
-use Rattle.model.specs.Read.{Scan, nothingRead, note, fault, Reading, close, readFrom, read}
-use Rattle.model.proofs.Bools.{by-cases}
+use Rattle.model.specs.Layout.{encode, Rules, present, former}
+use Rattle.model.specs.Answer.{given, refused, _then_}
+use Rattle.model.specs.Read.{Scan, nothingRead, note, fault, readFrom, readWords, firstUnclaimed, close, readBy}
+use Rattle.model.proofs.Bools.{by-bool, by-cases}
 use Rattle.model.proofs.Faults.{fault-passes}
-use Rattle.demands.specs.Turned.{kind, field, Came, Brings, after-end, Clean, FirstFault, Turned}
+use Rattle.demands.specs.Turned.{kind, field, Came, Brings, after-end, Faultless, FirstFault, OfWhole, Turned}
+use Rattle.demands.specs.Terms.{AllClaimed}
+use Rattle.demands.proofs.ClaimedDevices.{lowest-unclaimed, unclaimed-lowest, all-or-lowest}
 use Rattle.demands.proofs.ReadSoFar.{Tracks, going, done, nothing, tracks-on}
 use Rattle.demands.proofs.WordFaults.{going-brings}
 use Rattle.demands.proofs.LowestFaults.{Within, going-within, three}
@@ -63,7 +66,7 @@ module _ (ws : List ℕ) where
   unfolding readFrom
   read-past i s l e = rw (drop-cons ws i 0 l, e)
 
-  read-to : (i : ℕ) → i ≤ length ws → Clean ws i → ReadTo i
+  read-to : (i : ℕ) → i ≤ length ws → Faultless ws i → ReadTo i
   read-to zero l c = record { scan = nothingRead; tracks = going [] [] (nothing ws); rest = refl }
   read-to (suc i) l c =
       let r = read-to i (omega arith) (λ j m h. c j m (omega arith)) in
@@ -77,30 +80,30 @@ module _ (ws : List ℕ) where
       }
 
   -- the words are neither none nor too many
-  from-first : 0 < length ws → length ws ≤ 4096 → read ws ≡ readFrom nothingRead 0 ws
-  unfolding read
+  from-first : 0 < length ws → length ws ≤ 4096 → readWords ws ≡ readFrom nothingRead 0 ws
+  unfolding readWords
   from-first some few = rw (ne-eqb (length ws) 0 (λ z. omega arith), le-ltb 4096 (length ws) few)
 
-  over : 4096 < length ws → read ws ≡ refused 2 4096
-  unfolding read
+  over : 4096 < length ws → readWords ws ≡ refused 2 4096
+  unfolding readWords
   over l = rw (ne-eqb (length ws) 0 (λ z. omega arith), lt-ltb 4096 (length ws) l)
 
-  first-fault : (i n : ℕ) → length ws ≤ 4096 → FirstFault ws i n → read ws ≡ refused n i
+  first-fault : (i n : ℕ) → length ws ≤ 4096 → FirstFault ws i n → readWords ws ≡ refused n i
   first-fault i n few f =
-      let r = read-to i (omega (arith, f .listed)) (f .clean-before) in
+      let r = read-to i (omega (arith, f .listed)) (f .faultless-before) in
       let e = lowest i (r .scan) n (r .tracks) (f .brings) (f .lowest) in
       let w = within i (r .scan) n (r .tracks) (f .brings) in
       from-first (omega (arith, f .listed)) few ∙ r .rest ∙ read-at i (r .scan) n (f .listed) e (rw e at (w .0))
 
   -- the first k words are without a fault, or one of them is the first that has one
-  clean-or-not : (k : ℕ) → k ≤ length ws → Clean ws k ⊎ ((i n : ℕ) × FirstFault ws i n)
+  clean-or-not : (k : ℕ) → k ≤ length ws → Faultless ws k ⊎ ((i n : ℕ) × FirstFault ws i n)
   clean-or-not zero l = inl (λ j m h. absurd (omega arith))
   clean-or-not (suc k) l = by-cases (clean-or-not k (omega arith)) (λ c. by-number c (read-to k (omega arith) c)) inr
     where
-      by-number : Clean ws k → ReadTo k → Clean ws (suc k) ⊎ ((i n : ℕ) × FirstFault ws i n)
+      by-number : Faultless ws k → ReadTo k → Faultless ws (suc k) ⊎ ((i n : ℕ) × FirstFault ws i n)
       by-number c r = on (faultAt (r .scan) k) refl
         where
-          on : (v : ℕ) → faultAt (r .scan) k ≡ v → Clean ws (suc k) ⊎ ((i n : ℕ) × FirstFault ws i n)
+          on : (v : ℕ) → faultAt (r .scan) k ≡ v → Faultless ws (suc k) ⊎ ((i n : ℕ) × FirstFault ws i n)
           on zero e = inl λ j m h b.
               by-cases (eq-or-lt-of-le (le-of-suc-le-suc h))
               (λ q. let w = within k (r .scan) m (r .tracks) (rw q at b) in omega arith)
@@ -110,46 +113,73 @@ module _ (ws : List ℕ) where
             suc v,
             record {
               listed = omega arith;
-              clean-before = c;
+              faultless-before = c;
               brings = brings k (r .scan) v (r .tracks) e;
               lowest = λ m b. let w = within k (r .scan) m (r .tracks) b in omega arith;
             },
           )
 
   -- all words, without a fault
-  read-all : 0 < length ws → length ws ≤ 4096 → (r : ReadTo (length ws)) → read ws ≡ close (r .scan) (length ws)
-  unfolding readFrom
-  read-all some few r = from-first some few ∙ r .rest ∙ rw (drop-length ws)
+  read-all : 0 < length ws → length ws ≤ 4096 → (r : ReadTo (length ws)) → readWords ws ≡ readFrom (r .scan) (length ws) []
+  read-all some few r = from-first some few ∙ r .rest ∙ ap (readFrom (r .scan) (length ws)) (drop-length ws)
 
-  unended : (s : Scan) → Tracks ws (length ws) s → (Came ws (length ws) 5 → ⊥) → close s (length ws) ≡ refused 11 (length ws)
-  unfolding close
+  unended : (s : Scan) → Tracks ws (length ws) s → (Came ws (length ws) 5 → ⊥) → readFrom s (length ws) [] ≡ refused 11 (length ws)
+  unfolding readFrom
   unended s (going cs ts g) n = refl
   unended s (done r c w) n = absurd (n c)
 
-  -- the set that all words declare: accepted, or its grid is too large
-  abbrev Answered : Reading → Type 0
-  Answered a =
-      (s : Set) × (ws ≡ encode s) × (size (lengthsOf s) ≤ 65536 → a ≡ given s) × (65536 < size (lengthsOf s) → a ≡ refused 12 (length ws - 1))
-
-  ended : (s : Scan) → Tracks ws (length ws) s → Came ws (length ws) 5 → Answered (close s (length ws))
-  unfolding close
+  -- the set that all words declare
+  ended : (s : Scan) → Tracks ws (length ws) s → Came ws (length ws) 5 → (r : Set) × (ws ≡ encode r) × (readFrom s (length ws) [] ≡ given r)
+  unfolding readFrom
   ended s (going cs ts g) c = absurd (g .no-end c)
-  ended s (done r e w) c = (
-    r,
-    sym (take-length ws) ∙ w,
-    (λ l. rw (le-ltb 65536 (size (lengthsOf r)) l)),
-    (λ l. rw (lt-ltb 65536 (size (lengthsOf r)) l)),
-  )
+  ended s (done r e w) c = (r, sym (take-length ws) ∙ w, refl)
+
+-- a refusal of the words is one by all rules
+by-rules : (rules : Rules) (ws : List ℕ) (n p : ℕ) → readWords ws ≡ refused n p → readBy rules ws ≡ refused n p
+unfolding readBy _then_
+by-rules rules ws n p e = rw e
+
+-- what a set that all words declare answers
+module _ (ws : List ℕ) (s : Set) (declared : readWords ws ≡ given s) where
+  closed : (rules : Rules) → readBy rules ws ≡ close rules (length ws) s
+  unfolding readBy _then_
+  closed rules = rw declared
+
+  first-claimed : AllClaimed s → length (s .capacities) ≤ firstUnclaimed s
+  first-claimed all =
+      by-bool (ltb (firstUnclaimed s) (length (s .capacities)))
+      (λ k. let l = lowest-unclaimed s (ltb-true _ _ k) in absurd (l .unclaimed (all (firstUnclaimed s) (l .declared))))
+      (λ k. ltb-false _ _ k)
+
+  whole : ws ≡ encode s → OfWhole ws s
+  unfolding close
+  whole e =
+      let n = length (s .capacities) in
+      let g = size (lengthsOf s) in
+      record {
+        words = e;
+        claims = all-or-lowest s;
+        unclaimed = λ d l.
+            let same = unclaimed-lowest s d l in
+            closed present ∙ rw (lt-ltb (firstUnclaimed s) n (omega (arith, same, l .declared))) (ap (λ (k : ℕ). refused 24 k) same);
+        too-large = λ all h. closed present ∙ rw (le-ltb (firstUnclaimed s) n (first-claimed all), lt-ltb 65536 g h);
+        accepted = λ all h. closed present ∙ rw (le-ltb (firstUnclaimed s) n (first-claimed all), le-ltb 65536 g h);
+        formerly-too-large = λ h. closed former ∙ rw (lt-ltb 65536 g h);
+        formerly-accepted = λ h. closed former ∙ rw (le-ltb 65536 g h);
+      }
 
 pub turned : Turned
-unfolding read
+unfolding readWords readBy _then_
 turned = record {
-  no-words = refl;
-  too-many = over;
+  no-words = λ rules. refl;
+  too-many = λ rules ws l. by-rules rules ws 2 4096 (over ws l);
   cases = λ ws few. clean-or-not ws (length ws) (omega arith);
-  first-word = first-fault;
-  no-end = λ ws some few c n. let r = read-to ws (length ws) (omega arith) c in read-all ws some few r ∙ unended ws (r .scan) (r .tracks) n;
+  first-word = λ rules ws i n few f. by-rules rules ws n i (first-fault ws i n few f);
+  no-end = λ rules ws some few c n.
+      let r = read-to ws (length ws) (omega arith) c in
+      by-rules rules ws 11 (length ws) (read-all ws some few r ∙ unended ws (r .scan) (r .tracks) n);
   with-end = λ ws few c e.
       let r = read-to ws (length ws) (omega arith) c in
-      rw (read-all ws (omega (arith, e .1)) few r) (ended ws (r .scan) (r .tracks) e);
+      let d = ended ws (r .scan) (r .tracks) e in
+      (d .0, whole ws (d .0) (read-all ws (omega (arith, e .1)) few r ∙ d .2) (d .1));
 }

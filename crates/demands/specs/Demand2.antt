@@ -8,8 +8,8 @@ use mathlib.Core.Bool.{true}
 use mathlib.Core.List.{List, map, List·Memᴰ}
 use Rattle.model.specs.Answer.{given}
 use Rattle.model.specs.Set.{Set, lengthsOf, size}
-use Rattle.model.specs.Layout.{encode, WellFormed}
-use Rattle.model.specs.Read.{read, setIn}
+use Rattle.model.specs.Layout.{encode, Rules, present, former, WellFormedBy}
+use Rattle.model.specs.Read.{readBy, setIn}
 use Rattle.model.specs.State.{State, stateAt, InGrid}
 use Rattle.model.specs.Hold.{Overfull}
 use Rattle.model.specs.Box.{covered}
@@ -19,14 +19,14 @@ use Rattle.model.specs.Analysis.{analyse}
 use Rattle.demands.specs.Terms.{Ordered}
 use Rattle.demands.specs.MapDemand.{IsDead, IsReached}
 
--- first part: the sets of the layout and no others
-pub record LayoutExact : Type 0 where
+-- first part: the sets of the layout and no others, by these rules
+pub record LayoutExact (rules : Rules) : Type 0 where
   -- the words of a well-formed set are accepted, and read as that set
-  pub accepts : (s : Set) → WellFormed s → read (encode s) ≡ given s
+  pub accepts : (s : Set) → WellFormedBy rules s → readBy rules (encode s) ≡ given s
   -- accepted words are the words of the set that is read, and it is well formed
-  pub no-others : (words : List ℕ) (s : Set) → read words ≡ given s → (words ≡ encode s) × WellFormed s
+  pub no-others : (words : List ℕ) (s : Set) → readBy rules words ≡ given s → (words ≡ encode s) × WellFormedBy rules s
   -- well-formed sets with equal words are equal
-  pub one-set : (s r : Set) → WellFormed s → WellFormed r → encode s ≡ encode r → s ≡ r
+  pub one-set : (s r : Set) → WellFormedBy rules s → WellFormedBy rules r → encode s ≡ encode r → s ≡ r
 
 -- the state of rank r of the set s is dead; and the state of rank r is reached
 abbrev pub DeadRank : Set → ℕ → Type 0
@@ -55,7 +55,9 @@ pub record PlanExact (s : Set) (p : Plan) : Type 0 where
 
 -- demand 2
 pub record Demand2 : Type 0 where
-  pub layout : LayoutExact
+  -- by the present rules, and by the former ones, which the cleaner reads by
+  pub layout : LayoutExact present
+  pub former-layout : LayoutExact former
   -- of the plan of every set
   pub of-set : (s : Set) → PlanExact s (planOf s)
   -- where an analysis is accepted, of the plan read back from the plan slice as it leaves it, whatever the slices held and however long they are

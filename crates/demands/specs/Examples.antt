@@ -6,6 +6,7 @@ use lib.ListN.{length, replicate}
 use Rattle.model.specs.Answer.{Answer, given, refused}
 use Rattle.model.specs.Set.{Set, claim, release}
 use Rattle.model.specs.Read.{read}
+use Rattle.model.specs.Clean.{clean}
 use Rattle.model.specs.Map.{mapOf}
 use Rattle.model.specs.Plan.{ranksFrom, unsafeOf, deadOf, planOf, planWords}
 use Rattle.model.specs.Analysis.{Analysed, analyse}
@@ -93,9 +94,11 @@ pub record Examples : Type 0 where
   pub e-unsafe : unsafeOf e ≡ []
   -- f's plan is END alone
   pub f-plan : analysed (0x20000000 ∷ 0x50000001 ∷ []) 1 1 .plan ≡ 0x50000000 ∷ []
-  -- g: a device that no task claims, and a capacity of 9
-  pub g-plan : analysed (0x10000008 ∷ 0x20000000 ∷ 0x50000002 ∷ []) 1 1 .plan ≡ 0x50000000 ∷ []
+  -- g: a device that one task claims, and a capacity of 9; the set that it was before has a device that no task claims, and is cleaned to one without devices
+  pub g-plan : analysed (0x10000008 ∷ 0x20000000 ∷ 0x30000000 ∷ 0x40000000 ∷ 0x50000004 ∷ []) 3 1 .plan ≡ 0x50000000 ∷ []
   pub g-refused : read (0x10000009 ∷ []) ≡ refused 6 0
+  pub g-unclaimed : read (0x10000008 ∷ 0x20000000 ∷ 0x50000002 ∷ []) ≡ refused 24 0
+  pub g-cleaned : clean (0x10000008 ∷ 0x20000000 ∷ 0x50000002 ∷ []) (replicate 2 0) ≡ record { answer = given 2; slice = 0x20000000 ∷ 0x50000001 ∷ [] }
   -- h to k are refused
   pub h-refused : read (0x30000000 ∷ []) ≡ refused 5 0
   pub i-refused : read (0x20000000 ∷ []) ≡ refused 11 1

@@ -7,7 +7,7 @@ use mathlib.Core.List.{List, [], _∷_, List·Memᴰ, map}
 use lib.ListN.{length}
 use lib.Dec.{eqb, ltb}
 use Rattle.model.specs.Set.{Set, taskAt, at}
-use Rattle.model.specs.Layout.{WellFormed}
+use Rattle.model.specs.Layout.{Rules, WellFormedBy}
 use Rattle.model.specs.Box.{Box, side}
 use Rattle.model.specs.Forbidden.{Forbidden, forbidden}
 use Rattle.model.specs.TaskTable.{table}
@@ -59,8 +59,8 @@ Smaller m k =
 
 pub record ForbiddenRule : Type 0 where
   -- the forbidden boxes of a well-formed set are those of the rule, each once, in that order
-  pub rule : (s : Set) → WellFormed s → (f : Forbidden) → List·Memᴰ f (forbidden s) ↔ OfRule s f
-  pub order : (s : Set) → WellFormed s → Ordered Precedes (forbidden s)
+  pub rule : (rules : Rules) (s : Set) → WellFormedBy rules s → (f : Forbidden) → List·Memᴰ f (forbidden s) ↔ OfRule s f
+  pub order : (rules : Rules) (s : Set) → WellFormedBy rules s → Ordered Precedes (forbidden s)
   -- the table has the 255 non-empty sets of eight tasks, each once, in that order
   pub entries : length table ≡ 255
   pub bytes : (m : ℕ) → List·Memᴰ m table → (1 ≤ m) × (m ≤ 255)

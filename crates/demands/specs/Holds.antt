@@ -6,7 +6,7 @@ use mathlib.Core.Bool.{true}
 use mathlib.Core.List.{[], _∷_, List·Memᴰ}
 use lib.ListN.{length, getD}
 use Rattle.model.specs.Set.{claim, release, Task, Set, lengthsOf, taskAt, at}
-use Rattle.model.specs.Layout.{WellFormed}
+use Rattle.model.specs.Layout.{Rules, WellFormedBy}
 use Rattle.model.specs.State.{State, InGrid}
 use Rattle.model.specs.Hold.{Interval, holds, holding, held, permitted}
 use Rattle.model.specs.Map.{mapOf}
@@ -41,7 +41,7 @@ abbrev pub twice : Set
 twice = record { capacities = 1 ∷ []; tasks = (claim 0 ∷ release 0 ∷ claim 0 ∷ release 0 ∷ []) ∷ (claim 0 ∷ release 0 ∷ []) ∷ [] }
 
 pub record HoldsRight : Type 0 where
-  pub holds-right : (s : Set) → WellFormed s → OfHolds s
+  pub holds-right : (rules : Rules) (s : Set) → WellFormedBy rules s → OfHolds s
   -- each of the two holds counts: positions 1 and 3 are holds, and each is forbidden while the other task holds the device
   pub twice-holds : holds 0 (taskAt twice 0) ≡ 1 to 1 ∷ 3 to 3 ∷ []
   pub twice-map : mapOf twice ≡ 0 ∷ 0 ∷ 0 ∷ 0 ∷ 1 ∷ 0 ∷ 0 ∷ 0 ∷ 0 ∷ 0 ∷ 1 ∷ 0 ∷ 0 ∷ 0 ∷ 0 ∷ []

@@ -5,7 +5,7 @@ use Rattle.model.specs.Answer.{Answer, given, refused}
 use Rattle.model.specs.Set.{Set, lengthsOf, size}
 use Rattle.model.specs.Broker.{Bid, granted, finished, busy, held, Again, restarted}
 use Rattle.model.specs.StoredPlan.{Location, in-forbidden, in-unsafe, in-neither}
-use Rattle.model.specs.Told.{Told, tellReading, tellAnalysis, tellRoute, tellBid, tellAgain, tellLocation, hearNumber, hearBid, hearAgain, hearLocation}
+use Rattle.model.specs.Told.{Told, tellReading, tellAnalysis, tellRoute, tellBid, tellAgain, tellLocation, tellCleaned, hearNumber, hearBid, hearAgain, hearLocation}
 
 -- a kind, a refusal's number and a value
 abbrev pub numbers : ℕ → ℕ → ℕ → Told
@@ -19,6 +19,7 @@ pub record Hosts : Type 0 where
       × (tellBid (refused n p) ≡ numbers 0 n p)
       × (tellAgain (refused n p) ≡ numbers 0 n p)
       × (tellLocation (refused n p) ≡ numbers 0 n p)
+      × (tellCleaned (refused n p) ≡ numbers 0 n p)
   -- a value's kind is one call's alone
   pub of-planned : (n : ℕ) → tellAnalysis (given n) ≡ numbers 2 0 n
   pub of-routed : (n : ℕ) → tellRoute (given n) ≡ numbers 3 0 n
@@ -30,17 +31,20 @@ pub record Hosts : Type 0 where
   pub of-forbidden : (i : ℕ) → tellLocation (given (in-forbidden i)) ≡ numbers 9 0 i
   pub of-unsafe : (i : ℕ) → tellLocation (given (in-unsafe i)) ≡ numbers 10 0 i
   pub of-neither : tellLocation (given in-neither) ≡ numbers 11 0 0
+  pub of-cleaned : (n : ℕ) → tellCleaned (given n) ≡ numbers 12 0 n
   -- a set that is read is told with its grid, one that is refused as every refusal
   pub of-accepted : (s : Set) → tellReading (given s) ≡ numbers 1 0 (size (lengthsOf s))
   pub of-faulty : (n p : ℕ) → tellReading (refused n p) ≡ numbers 0 n p
-  -- a host hears every answer of an analysis, a route, a bid, an again and a question as it was given, so no two of them are told alike
+  -- a host hears every answer of an analysis, a route, a bid, an again, a question and the cleaner as it was given, so no two of them are told alike
   pub heard-told : ((a : Answer ℕ) → hearNumber (tellAnalysis a) ≡ a)
       × ((a : Answer ℕ) → hearNumber (tellRoute a) ≡ a)
       × ((a : Answer Bid) → hearBid (tellBid a) ≡ a)
       × ((a : Answer Again) → hearAgain (tellAgain a) ≡ a)
       × ((a : Answer Location) → hearLocation (tellLocation a) ≡ a)
+      × ((a : Answer ℕ) → hearNumber (tellCleaned a) ≡ a)
   pub told-apart : ((a b : Answer ℕ) → tellAnalysis a ≡ tellAnalysis b → a ≡ b)
       × ((a b : Answer ℕ) → tellRoute a ≡ tellRoute b → a ≡ b)
       × ((a b : Answer Bid) → tellBid a ≡ tellBid b → a ≡ b)
       × ((a b : Answer Again) → tellAgain a ≡ tellAgain b → a ≡ b)
       × ((a b : Answer Location) → tellLocation a ≡ tellLocation b → a ≡ b)
+      × ((a b : Answer ℕ) → tellCleaned a ≡ tellCleaned b → a ≡ b)

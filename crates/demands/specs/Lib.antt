@@ -19,6 +19,8 @@ pub mod Demand2
 pub mod Demand3
 pub mod RouteDemand
 pub mod Refusals
+pub mod Cleaning
 pub mod Printer
+pub mod CleanProgram
 pub mod StoredPlans
 pub mod Hosts

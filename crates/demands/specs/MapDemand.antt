@@ -8,6 +8,7 @@ use Rattle.model.specs.Set.{Set, lengthsOf, at}
 use Rattle.model.specs.State.{State, InGrid, next, start, rank}
 use Rattle.model.specs.Hold.{permitted}
 use Rattle.model.specs.Run.{CanEnd, Reached, Dead}
+use Rattle.model.specs.Map.{mapOf}
 
 module _ (s : Set) where
   -- allowed steps of these tasks, in this order, lead from x to y: each adds 1 to an unfinished task's position, and the new state is permitted
@@ -48,6 +49,8 @@ module _ (s : Set) where
 
 -- of the states of a set
 pub record MapDemand : Type 0 where
+  -- the bytes of a set's map, whichever rules the set keeps
+  pub map-bytes : (s : Set) → Bytes s (mapOf s)
   -- the definitions of Run say the same
   pub can-end : (s : Set) (x : State) → InGrid (lengthsOf s) x → CanEnd (lengthsOf s) (permitted s) x ↔ ReachesEnd s x
   pub dead : (s : Set) (x : State) → InGrid (lengthsOf s) x → Dead (lengthsOf s) (permitted s) x ↔ IsDead s x

@@ -1,17 +1,18 @@
--- SCOPE.md, "Sets" and "Refusals", 1 to 12: which sets are well formed, each refusal and each limit at its edge, and the order of the rows.
+-- SCOPE.md, "Sets" and "Refusals", 1 to 12 and 24: which sets are well formed, each refusal and each limit at its edge, and the order of the rows.
 use Prim.Native.Nat.{ℕ, _+_, _%_, _<_, _≤_}
 use mathlib.Core.Path.{_≡_}
 use mathlib.Core.Logic.{_↔_, _⊎_}
 use mathlib.Core.List.{List, [], _∷_, _++_, map, flatten}
 use lib.ListN.{length, replicate}
+use Rattle.model.specs.Below.{tabulate}
 use Rattle.model.specs.Set.{Action, claim, release, Set, lengthsOf, taskAt, actionAt, at, size}
-use Rattle.model.specs.Layout.{encode, WellFormed}
+use Rattle.model.specs.Layout.{encode, Rules, present, former, WellFormedBy}
 use Rattle.model.specs.Answer.{given, refused}
-use Rattle.model.specs.Read.{read}
-use Rattle.demands.specs.Terms.{times, StillHeld}
+use Rattle.model.specs.Read.{readBy, read}
+use Rattle.demands.specs.Terms.{times, StillHeld, AllClaimed}
 
--- the sentences of "Sets", each by itself
-pub record InLayout (s : Set) : Type 0 where
+-- the sentences of "Sets", each by itself; the former rules didn't have the one on claimed devices
+pub record InLayout (rules : Rules) (s : Set) : Type 0 where
   -- at most 16 devices, of capacity 1 to 8
   pub devices : length (s .capacities) ≤ 16
   pub capacity : (d : ℕ) → d < length (s .capacities) → (1 ≤ at (s .capacities) d) × (at (s .capacities) d ≤ 8)
@@ -25,6 +26,8 @@ pub record InLayout (s : Set) : Type 0 where
   pub claims : (t p d : ℕ) → t < length (s .tasks) → p < length (taskAt s t) → actionAt s t p ≡ claim d → StillHeld d (taskAt s t) p → ⊥
   pub releases : (t p d : ℕ) → t < length (s .tasks) → p < length (taskAt s t) → actionAt s t p ≡ release d → StillHeld d (taskAt s t) p
   pub closes : (t d : ℕ) → t < length (s .tasks) → StillHeld d (taskAt s t) (length (taskAt s t)) → ⊥
+  -- some task claims each device
+  pub each-claimed : rules ≡ present → AllClaimed s
   -- the grid is at most 65,536
   pub grid : size (lengthsOf s) ≤ 65536
 
@@ -48,9 +51,9 @@ pub record ReadingRight : Type 0 where
   -- the words of a set, and END, kind 5, with the number of words before it
   pub words : (s : Set) → encode s ≡ wordsOf s ++ ((0x50000000 + length (wordsOf s)) ∷ [])
   -- a set is well formed exactly if each of those sentences holds of it; then each L is even and the grid is odd
-  pub layout : (s : Set) → WellFormed s ↔ InLayout s
-  pub even : (s : Set) → WellFormed s → (t : ℕ) → length (taskAt s t) % 2 ≡ 0
-  pub odd : (s : Set) → WellFormed s → size (lengthsOf s) % 2 ≡ 1
+  pub layout : (rules : Rules) (s : Set) → WellFormedBy rules s ↔ InLayout rules s
+  pub even : (rules : Rules) (s : Set) → WellFormedBy rules s → (t : ℕ) → length (taskAt s t) % 2 ≡ 0
+  pub odd : (rules : Rules) (s : Set) → WellFormedBy rules s → size (lengthsOf s) % 2 ≡ 1
   -- accepted: two devices of the least and the most capacity, and a task without actions between two others; no device at all
   pub accepted : (read (0x10000001 ∷ 0x10000008 ∷ 0x20000000 ∷ 0x30000001 ∷ 0x30000000 ∷ 0x40000001 ∷ 0x40000000 ∷ 0x20000000 ∷ 0x20000000 ∷ 0x30000001 ∷ 0x40000001 ∷ 0x5000000B ∷ [])
       ≡ given (record { capacities = 1 ∷ 8 ∷ []; tasks = (claim 1 ∷ claim 0 ∷ release 1 ∷ release 0 ∷ []) ∷ [] ∷ (claim 1 ∷ release 1 ∷ []) ∷ [] }))
@@ -104,7 +107,8 @@ pub record ReadingRight : Type 0 where
       × (read (0x10000001 ∷ 0x10000001 ∷ 0x20000000 ∷ times 127 turnWords (0x30000000 ∷ 0x40000001 ∷ [])) ≡ refused 7 258)
       × (read (0x10000001 ∷ replicate 8 0x20000000 ++ (0x30000000 ∷ 0x20000000 ∷ [])) ≡ refused 7 10)
   -- 16 devices and 8 tasks, and 254 actions, are accepted; the 255th action is no 7 (then END is missing), and is still looked at for 9 and for 8
-  pub within-7 : (read (replicate 16 0x10000001 ++ (replicate 8 0x20000000 ++ (0x50000018 ∷ []))) ≡ given (record { capacities = replicate 16 1; tasks = replicate 8 [] }))
+  pub within-7 : (read (replicate 16 0x10000001 ++ (0x20000000 ∷ flatten (tabulate 16 (λ d. (0x30000000 + d) ∷ (0x40000000 + d) ∷ [])) ++ (replicate 7 0x20000000 ++ (0x50000038 ∷ []))))
+      ≡ given (record { capacities = replicate 16 1; tasks = flatten (tabulate 16 (λ d. claim d ∷ release d ∷ [])) ∷ replicate 7 [] }))
       × (read (0x10000001 ∷ 0x20000000 ∷ times 127 turnWords (0x50000100 ∷ [])) ≡ given (record { capacities = 1 ∷ []; tasks = times 127 turn [] ∷ [] }))
       × (read (0x10000001 ∷ 0x20000000 ∷ times 127 turnWords (0x30000000 ∷ [])) ≡ refused 11 257)
       × (read (0x10000001 ∷ 0x20000000 ∷ times 127 turnWords (0x40000000 ∷ [])) ≡ refused 9 256)
@@ -132,5 +136,20 @@ pub record ReadingRight : Type 0 where
       ≡ given (record { capacities = 1 ∷ []; tasks = times 35 turn [] ∷ times 35 turn [] ∷ times 6 turn [] ∷ [] }))
       × (read (0x10000001 ∷ 0x20000000 ∷ times 127 turnWords (0x20000000 ∷ times 127 turnWords (0x500001FF ∷ [])))
       ≡ given (record { capacities = 1 ∷ []; tasks = times 127 turn [] ∷ times 127 turn [] ∷ [] }))
+  -- 24: a device that no task claims, the lowest; in every place among the others, and where there is no other
+  pub refusal-24 : (read (0x10000008 ∷ 0x20000000 ∷ 0x50000002 ∷ []) ≡ refused 24 0)
+      × (read (0x10000001 ∷ 0x10000001 ∷ 0x10000001 ∷ 0x20000000 ∷ 0x30000002 ∷ 0x40000002 ∷ 0x50000006 ∷ []) ≡ refused 24 0)
+      × (read (0x10000001 ∷ 0x10000001 ∷ 0x10000001 ∷ 0x20000000 ∷ 0x30000000 ∷ 0x40000000 ∷ 0x50000006 ∷ []) ≡ refused 24 1)
+      × (read (0x10000001 ∷ 0x10000001 ∷ 0x10000001 ∷ 0x20000000 ∷ 0x30000000 ∷ 0x30000001 ∷ 0x40000000 ∷ 0x40000001 ∷ 0x50000008 ∷ []) ≡ refused 24 2)
+      × (read (replicate 16 0x10000001 ++ (replicate 8 0x20000000 ++ (0x50000018 ∷ []))) ≡ refused 24 0)
+  -- one that only the last of three tasks claims is claimed
+  pub within-24 : read (0x10000001 ∷ 0x10000002 ∷ 0x20000000 ∷ 0x30000000 ∷ 0x40000000 ∷ 0x20000000 ∷ 0x20000000 ∷ 0x30000001 ∷ 0x40000001 ∷ 0x50000009 ∷ [])
+      ≡ given (record { capacities = 1 ∷ 2 ∷ []; tasks = turn ∷ [] ∷ (claim 1 ∷ release 1 ∷ []) ∷ [] })
+  -- after 11, and before 12
+  pub between-24 : (read (0x10000001 ∷ 0x20000000 ∷ []) ≡ refused 11 2)
+      × (read (0x10000001 ∷ 0x10000001 ∷ 0x20000000 ∷ times 127 turnWords (0x20000000 ∷ times 127 turnWords (0x20000000 ∷ times 1 turnWords (0x50000203 ∷ [])))) ≡ refused 24 1)
+  -- by the former rules the first set of refusal-24 is accepted, and the last of between-24 is 12
+  pub formerly : (readBy former (0x10000008 ∷ 0x20000000 ∷ 0x50000002 ∷ []) ≡ given (record { capacities = 8 ∷ []; tasks = [] ∷ [] }))
+      × (readBy former (0x10000001 ∷ 0x10000001 ∷ 0x20000000 ∷ times 127 turnWords (0x20000000 ∷ times 127 turnWords (0x20000000 ∷ times 1 turnWords (0x50000203 ∷ [])))) ≡ refused 12 515)
   -- the first faulty word counts, not the lowest number: 9 before a later 4
   pub first-fault : read (0x10000001 ∷ 0x20000000 ∷ 0x40000000 ∷ 0x00000000 ∷ []) ≡ refused 9 2

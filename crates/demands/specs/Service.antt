@@ -9,7 +9,7 @@ use Rattle.model.specs.Set.{claim, release, Set, lengthsOf, taskAt, actionAt, a
 use Rattle.model.specs.State.{State, InGrid, next, rank}
 use Rattle.model.specs.Hold.{permitted}
 use Rattle.model.specs.Read.{read}
-use Rattle.model.specs.Layout.{WellFormed}
+use Rattle.model.specs.Layout.{Rules, WellFormedBy}
 use Rattle.model.specs.Analysis.{analyse}
 use Rattle.model.specs.Record.{Record, fresh, stateIn}
 use Rattle.model.specs.Broker.{granted, finished, busy, held, grant, bid, again, Call, afterCalls}
@@ -44,7 +44,7 @@ module _ (words m : List ℕ) (s : Set) (r : Record) where
 
 pub record Service : Type 0 where
   -- at an open state of the grid a release leads to an open state
-  pub release-open : (s : Set) → WellFormed s → (x : State) → InGrid (lengthsOf s) x → IsOpen s x
+  pub release-open : (rules : Rules) (s : Set) → WellFormedBy rules s → (x : State) → InGrid (lengthsOf s) x → IsOpen s x
       → (t d : ℕ) → at x t < length (taskAt s t) → actionAt s t (at x t) ≡ release d → IsOpen s (next x t)
   -- for all words that read as a set and a map slice with room for its map, after every list of calls from a fresh record
   pub service : (words map plan : List ℕ) (s : Set) → read words ≡ given s → size (lengthsOf s) ≤ length map → (cs : List Call)

@@ -3,9 +3,9 @@ use Prim.Native.Nat.{ℕ, zero, suc, _+_, _<_}
 use mathlib.Core.Path.{_≡_}
 use mathlib.Core.Bool.{Bool, false, cond, _&&_, _||_}
 use mathlib.Core.List.{List, [], _∷_, _++_, List·Memᴰ}
-use lib.ListN.{getD}
+use lib.ListN.{length, getD}
 use lib.Dec.{eqb, ltb}
-use Rattle.model.specs.Set.{claim, release, Task}
+use Rattle.model.specs.Set.{claim, release, Task, Set, taskAt, actionAt}
 use Rattle.model.specs.Hold.{Interval}
 
 -- the positions from p to q
@@ -38,3 +38,17 @@ Ordered R (a ∷ l) = ((b : _) → List·Memᴰ b l → R a b) × Ordered R l
 abbrev pub StillHeld : ℕ → Task → ℕ → Type 0
 StillHeld d task k =
     (p : ℕ) × (p < k) × (getD task p (claim 0) ≡ claim d) × ((q : ℕ) → p < q → q < k → getD task q (claim 0) ≡ release d → ⊥)
+
+-- some action of some task claims device d
+abbrev pub IsClaimed : Set → ℕ → Type 0
+IsClaimed s d = (t p : ℕ) × (t < length (s .tasks)) × (p < length (taskAt s t)) × (actionAt s t p ≡ claim d)
+
+-- each declared device is claimed
+abbrev pub AllClaimed : Set → Type 0
+AllClaimed s = (d : ℕ) → d < length (s .capacities) → IsClaimed s d
+
+-- d is declared, no task claims it, and every device before it is claimed
+pub record LowestUnclaimed (s : Set) (d : ℕ) : Type 0 where
+  pub declared : d < length (s .capacities)
+  pub unclaimed : IsClaimed s d → ⊥
+  pub lowest : (e : ℕ) → e < d → IsClaimed s e

@@ -1,4 +1,4 @@
--- SCOPE.md, "Refusals", 1 to 12, of all words: which word brings which number, said of the words alone.
+-- SCOPE.md, "Refusals", 1 to 12 and 24, of all words: which word brings which number, said of the words alone, by the present rules and by the former ones.
 use Prim.Native.Nat.{ℕ, _+_, _-_, _/_, _%_, _<_, _≤_}
 use mathlib.Core.Path.{_≡_}
 use mathlib.Core.Logic.{_⊎_}
@@ -6,10 +6,10 @@ use mathlib.Core.List.{List, []}
 use lib.ListN.{length, getD}
 use lib.Dec.{eqb}
 use Rattle.model.specs.Set.{Set, lengthsOf, size}
-use Rattle.model.specs.Layout.{encode}
+use Rattle.model.specs.Layout.{encode, Rules, former}
 use Rattle.model.specs.Answer.{given, refused}
-use Rattle.model.specs.Read.{read}
-use Rattle.demands.specs.Terms.{howMany}
+use Rattle.model.specs.Read.{readBy, read}
+use Rattle.demands.specs.Terms.{howMany, AllClaimed, LowestUnclaimed}
 
 module _ (ws : List ℕ) where
   -- word i's top four bits, and its low 28
@@ -62,24 +62,39 @@ module _ (ws : List ℕ) where
     holds-on : (kind i ≡ 2) ⊎ (kind i ≡ 5) → (d : ℕ) → Holds i d → Brings i 10
 
   -- no word before i brings any
-  abbrev pub Clean : ℕ → Type 0
-  Clean i = (j m : ℕ) → j < i → Brings j m → ⊥
+  abbrev pub Faultless : ℕ → Type 0
+  Faultless i = (j m : ℕ) → j < i → Brings j m → ⊥
 
   -- i is the first faulty word, and n the lowest of its numbers
   pub record FirstFault (i n : ℕ) : Type 0 where
     pub listed : i < length ws
-    pub clean-before : Clean i
+    pub faultless-before : Faultless i
     pub brings : Brings i n
     pub lowest : (m : ℕ) → Brings i m → n ≤ m
 
+-- what the words of a set answer, which have no fault and end with END
+pub record OfWhole (ws : List ℕ) (s : Set) : Type 0 where
+  -- they are the set's
+  pub words : ws ≡ encode s
+  -- each device is claimed, or one is the lowest that isn't
+  pub claims : AllClaimed s ⊎ ((d : ℕ) × LowestUnclaimed s d)
+  -- 24 with that device, whatever the grid; else 12, a grid over 65,536, at END; else the set is accepted
+  pub unclaimed : (d : ℕ) → LowestUnclaimed s d → read ws ≡ refused 24 d
+  pub too-large : AllClaimed s → 65536 < size (lengthsOf s) → read ws ≡ refused 12 (length ws - 1)
+  pub accepted : AllClaimed s → size (lengthsOf s) ≤ 65536 → read ws ≡ given s
+  -- the former rules ask for no claim
+  pub formerly-too-large : 65536 < size (lengthsOf s) → readBy former ws ≡ refused 12 (length ws - 1)
+  pub formerly-accepted : size (lengthsOf s) ≤ 65536 → readBy former ws ≡ given s
+
+-- what all rules have in common, and what comes after it
 pub record Turned : Type 0 where
   -- before words: none, or over 4,096
-  pub no-words : read [] ≡ refused 1 0
-  pub too-many : (ws : List ℕ) → 4096 < length ws → read ws ≡ refused 2 4096
+  pub no-words : (rules : Rules) → readBy rules [] ≡ refused 1 0
+  pub too-many : (rules : Rules) (ws : List ℕ) → 4096 < length ws → readBy rules ws ≡ refused 2 4096
   -- within the limit, each list has a first faulty word or none at all; the first one counts, with the lowest of its numbers
-  pub cases : (ws : List ℕ) → length ws ≤ 4096 → Clean ws (length ws) ⊎ ((i n : ℕ) × FirstFault ws i n)
-  pub first-word : (ws : List ℕ) (i n : ℕ) → length ws ≤ 4096 → FirstFault ws i n → read ws ≡ refused n i
-  -- after words without a fault: 11 where no END came; else they are the words of a set, which is accepted unless its grid is too large
-  pub no-end : (ws : List ℕ) → 0 < length ws → length ws ≤ 4096 → Clean ws (length ws) → (Came ws (length ws) 5 → ⊥) → read ws ≡ refused 11 (length ws)
-  pub with-end : (ws : List ℕ) → length ws ≤ 4096 → Clean ws (length ws) → Came ws (length ws) 5
-      → (s : Set) × (ws ≡ encode s) × (size (lengthsOf s) ≤ 65536 → read ws ≡ given s) × (65536 < size (lengthsOf s) → read ws ≡ refused 12 (length ws - 1))
+  pub cases : (ws : List ℕ) → length ws ≤ 4096 → Faultless ws (length ws) ⊎ ((i n : ℕ) × FirstFault ws i n)
+  pub first-word : (rules : Rules) (ws : List ℕ) (i n : ℕ) → length ws ≤ 4096 → FirstFault ws i n → readBy rules ws ≡ refused n i
+  -- after words without a fault: 11 where no END came; else they are the words of a set
+  pub no-end : (rules : Rules) (ws : List ℕ) → 0 < length ws → length ws ≤ 4096 → Faultless ws (length ws) → (Came ws (length ws) 5 → ⊥)
+      → readBy rules ws ≡ refused 11 (length ws)
+  pub with-end : (ws : List ℕ) → length ws ≤ 4096 → Faultless ws (length ws) → Came ws (length ws) 5 → (s : Set) × OfWhole ws s

@@ -37,7 +37,7 @@ fn say_analysis(label: &[u8], words: &[u32], map: &mut [u8], plan: &mut [u32]) {
 }
 
 pub fn read_line(label: &[u8], words: &[u32]) {
-    let reading = reader::read(words);
+    let reading = reader::read(words, reader::PRESENT);
     let verdict = reading.verdict;
     let shape: Shape = reading.shape;
     console::text(label);

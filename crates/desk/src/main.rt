@@ -4,6 +4,7 @@ mod lines;
 mod long;
 mod questions;
 mod sets;
+mod stored;
 
 fn main() {
     let words = sets::A;
@@ -17,6 +18,9 @@ fn main() {
     calls::spoilt_maps(&words);
     sets::mapped_sets();
     sets::small_sets();
+    stored::refused();
+    stored::cleaned();
+    stored::others();
     questions::on_a();
     questions::on_d();
     questions::on_others();

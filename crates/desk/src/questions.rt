@@ -20,14 +20,16 @@ const NINE: usize = model::MAX_TASKS + 1;
 
 const BEYOND: usize = 0x1_0000_0002;
 
-// The last positions of the examples' tasks; f and g have one task, without actions.
+// The last positions of the examples' tasks; f has one task, without actions.
 const LAST_OF_A: [u8; model::MAX_TASKS] = [4, 4, 0, 0, 0, 0, 0, 0];
 
 const LAST_OF_D: [u8; model::MAX_TASKS] = [6, 6, 0, 0, 0, 0, 0, 0];
 
 const LAST_OF_E: [u8; model::MAX_TASKS] = [2, 2, 2, 0, 0, 0, 0, 0];
 
-const NO_ACTIONS: [u8; model::MAX_TASKS] = [0, 0, 0, 0, 0, 0, 0, 0];
+const LAST_OF_F: [u8; model::MAX_TASKS] = [0, 0, 0, 0, 0, 0, 0, 0];
+
+const LAST_OF_G: [u8; model::MAX_TASKS] = [2, 0, 0, 0, 0, 0, 0, 0];
 
 // The state of two tasks.
 fn at_two(p: u8, q: u8) -> [u8; model::MAX_TASKS] {
@@ -141,8 +143,8 @@ pub fn on_others() {
     let mut end = [0u32; 1];
     let f = sets::F;
     analysis::analyse(&f, &mut map, &mut end);
-    states_line(b"plan of f", &end, 1, NO_ACTIONS, 1);
+    states_line(b"plan of f", &end, 1, LAST_OF_F, 1);
     let g = sets::G;
     analysis::analyse(&g, &mut map, &mut end);
-    states_line(b"plan of g", &end, 1, NO_ACTIONS, 1);
+    states_line(b"plan of g", &end, 1, LAST_OF_G, sets::GRID_OF_G);
 }

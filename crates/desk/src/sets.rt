@@ -62,7 +62,22 @@ pub const GRID_OF_E: usize = 27;
 
 pub const F: [u32; 2] = [0x2000_0000, 0x5000_0001];
 
-pub const G: [u32; 3] = [0x1000_0008, 0x2000_0000, 0x5000_0002];
+pub const WORDS_OF_G: usize = 5;
+
+pub const G: [u32; WORDS_OF_G] = [
+    0x1000_0008,
+    0x2000_0000,
+    0x3000_0000,
+    0x4000_0000,
+    0x5000_0004,
+];
+
+pub const GRID_OF_G: usize = 3;
+
+// Example g as it was before its device had to be claimed.
+pub const WORDS_OF_OLD_G: usize = 3;
+
+pub const OLD_G: [u32; WORDS_OF_OLD_G] = [0x1000_0008, 0x2000_0000, 0x5000_0002];
 
 // Examples d and e.
 pub fn mapped_sets() {
@@ -76,7 +91,7 @@ pub fn mapped_sets() {
 
 // Examples f to k.
 pub fn small_sets() {
-    let mut map = [UNTOUCHED; 1];
+    let mut map = [UNTOUCHED; GRID_OF_G];
     let f = F;
     analyse_line(b"f", &f, &mut map);
     let g = G;

@@ -3,3 +3,4 @@ pub mod Runs
 pub mod Rows
 pub mod Digits
 pub mod Callers
+pub mod Shown

@@ -1,6 +1,6 @@
--- What the code's answer says of a file's bytes, and a word's bytes.
-use Prim.Native.Nat.{ℕ, _/_, _%_}
-use mathlib.Core.List.{List, [], _∷_}
+-- What the code's answer says of a file's bytes.
+use Prim.Native.Nat.{ℕ}
+use mathlib.Core.List.{List}
 use lib.ListN.{length}
 use Rattle.model.specs.Answer.{Answer, given, refused}
 use Rattle.listing.specs.declared.Decoded.{Decoded}
@@ -10,7 +10,3 @@ use Rattle.listing.specs.declared.Decoded.the-variants.{Words, Refused}
 unfoldable pub decodedOf : Answer (List ℕ) → Decoded
 decodedOf (given ws) = Words (length ws)
 decodedOf (refused n p) = Refused n p
-
--- a word's bytes, lowest first
-abbrev pub bytesOf : ℕ → List ℕ
-bytesOf w = w % 0x100 ∷ w / 0x100 % 0x100 ∷ w / 0x10000 % 0x100 ∷ w / 0x1000000 ∷ []

@@ -12,13 +12,17 @@ ghost use lib.ListN.{length, take};
 ghost use Rattle.model.specs.Slice.{over};
 ghost use Rattle.model.specs.Answer.{ifGiven};
 ghost use Rattle.model.specs.Printed.{wordAt, wordsIn, wordsOf};
-ghost use Rattle.listing.specs.Words.{decodedOf, bytesOf};
+ghost use Rattle.model.specs.CleanFile.{bytesOf, bytesOfAll};
+ghost use Rattle.listing.specs.Words.{decodedOf};
 
 // A word's bytes.
 pub const WORD_BYTES: usize = 4;
 
 // A set's file has at most this many bytes.
 pub const MAX_BYTES: usize = model::MAX_WORDS * WORD_BYTES;
+
+// One byte more than a set's file may have is read, to tell that there are too many.
+pub const INPUT: usize = MAX_BYTES + 1;
 
 pub enum Decoded {
     Words(usize),
@@ -86,6 +90,21 @@ pub fn word_bytes(word: u32) -> [u8; WORD_BYTES]
         (word / 0x10000 % 0x100) as u8,
         (word / 0x100_0000) as u8,
     ]
+}
+
+// Puts the bytes of the words at the start of `out`, as many words as there is room for, and answers how many.
+pub fn fill_bytes(words: &[u32], out: &mut [u8]) -> usize
+    ensures { λ r. ⌜ r ≡ min (length (now (words .entry))) (length (now (out .entry)) / 4) ⌝ }
+    ensures { λ r. ⌜ now (out .exit) ≡ over (bytesOfAll (take r (now (words .entry)))) (now (out .entry)) ⌝ }
+{
+    let count = least(words.len(), out.len() / WORD_BYTES);
+    let mut k = 0;
+    while k < count {
+        let bytes = word_bytes(words[k]);
+        text::put(&bytes, out, k * WORD_BYTES);
+        k += 1;
+    }
+    count
 }
 
 // The smaller of two numbers.

@@ -114,7 +114,7 @@ fn put_digit(n: usize, out: &mut [u8], to: usize) -> usize
 }
 
 // Puts bytes at index `to` of `out`, and answers the index after them.
-fn put(bytes: &[u8], out: &mut [u8], to: usize) -> usize
+pub(crate) fn put(bytes: &[u8], out: &mut [u8], to: usize) -> usize
     requires { ⌜ to + length (now bytes) ≤ length (now out) ⌝ }
     ensures { λ r. ⌜ r ≡ to + length (now (bytes .entry)) ⌝ }
     ensures { λ _. ⌜ now (out .exit) ≡ write (now (out .entry)) to (now (bytes .entry)) ⌝ }

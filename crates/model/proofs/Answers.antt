@@ -39,3 +39,9 @@ module _ {A B : Type 0} (f : A → Answer B) where
   unfolding _then_
   then-given (given x) b = ((λ e. (x, refl, e)), λ r. ap f (given-value (r .1)) ∙ r .2)
   then-given (refused m q) b = ((λ e. refused-given e), λ r. refused-given (r .1))
+
+-- what comes next need only be the same for the value that there is
+pub then-same : {A B : Type 0} (f g : A → Answer B) (a : Answer A) → ((x : A) → a ≡ given x → f x ≡ g x) → (a then f) ≡ (a then g)
+unfolding _then_
+then-same f g (given x) e = e x refl
+then-same f g (refused m q) e = refl

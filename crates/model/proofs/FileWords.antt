@@ -9,7 +9,7 @@ use borrow.Author.Tests.{lt-ltb, le-ltb, eq-eqb, ne-eqb, ltb-true, ltb-false, eq
 use Rattle.model.specs.Answer.{given, refused}
 use Rattle.model.specs.Printed.{wordAt, wordsIn, wordsOf}
 use Rattle.model.proofs.Bools.{by-bool}
-use Rattle.model.proofs.Answers.{refused-given, given-value}
+use Rattle.model.proofs.Answers.{given-refused, refused-given, refused-number, refused-place, given-value}
 use Rattle.model.proofs.Lists.{length-tabulate}
 
 module _ (bs : List ℕ) where
@@ -38,3 +38,13 @@ module _ (bs : List ℕ) where
       by-bool (eqb (length bs % 4) 0)
       (λ q. let w = given-value (sym e ∙ whole h (eqb-true (length bs % 4) 0 q)) in (w, rw w (omega (arith, count-words))))
       (λ q. refused-given (sym (not-whole h (eqb-false (length bs % 4) 0 q)) ∙ e)))
+
+  -- a refusal's number and place are small
+  pub placed : (n p : ℕ) → wordsOf bs ≡ refused n p → (n < 100) × (p < 100000)
+  placed n p e =
+      by-bool (ltb 16384 (length bs))
+      (λ b. let q = sym (too-many (ltb-true 16384 (length bs) b)) ∙ e in (omega (arith, refused-number q), omega (arith, refused-place q)))
+      (λ b. let h = ltb-false 16384 (length bs) b in
+      by-bool (eqb (length bs % 4) 0)
+      (λ q. given-refused (sym (whole h (eqb-true (length bs % 4) 0 q)) ∙ e))
+      (λ q. let r = sym (not-whole h (eqb-false (length bs % 4) 0 q)) ∙ e in (omega (arith, refused-number r), omega (arith, refused-place r))))

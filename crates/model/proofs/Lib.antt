@@ -2,6 +2,7 @@
 
 -- tests, lists and answers
 pub mod Bools
+pub mod Counts
 pub mod Lists
 pub mod Slices
 pub mod Each
@@ -20,6 +21,10 @@ pub mod Faults
 pub mod ReadAccepts
 pub mod ReadExact
 pub mod ReadNumbers
+pub mod Renamed
+pub mod Unclaimed
+pub mod Kept
+pub mod Cleaned
 -- holds and permitted states
 pub mod Holds
 pub mod HoldWalk
@@ -66,8 +71,11 @@ pub mod BidAnswers
 pub mod BrokerRecord
 -- the route
 pub mod RouteStep
--- the printer
+-- the programs: a file's words, numbers and rows of bytes, what is shown; the printer's, and the cleaner's
 pub mod FileWords
 pub mod Decimal
+pub mod Rows
+pub mod FileShown
 pub mod ToPrint
 pub mod PrintedLength
+pub mod CleanedFile

@@ -8,6 +8,7 @@ use lib.Dec.{ltb}
 use borrow.Author.Tests.{ltb-false}
 use Rattle.model.specs.Answer.{given, refused, ifGiven}
 use Rattle.model.specs.Set.{Set, lengthsOf, size}
+use Rattle.model.specs.Layout.{present}
 use Rattle.model.specs.Read.{Reading, read, setOf}
 use Rattle.model.specs.Map.{mapOf}
 use Rattle.model.specs.Plan.{planOf, planWords}
@@ -52,11 +53,12 @@ module _ (words map : List ℕ) where
       let same = given-value (q .2) in
       (rw same at (r .1), rw same at (fits-room (r .0) map (q .0) (q .1)))
 
-  room-number : (n p : ℕ) → withRoom words map ≡ refused n p → n ≤ 13
-  room-number n p e =
-      by-cases (then-refused _ (read words) n p .0 e)
-      (λ q. omega (arith, read-number words n p q .1))
-      (λ r. by-cases (then-refused _ (mapFits (r .0) map) n p .0 (r .2)) (λ q. omega (arith, fits-number (r .0) map n p q)) (λ q. given-refused (q .2)))
+  -- neither the set nor its map's room brings 14
+  room-number : (p : ℕ) → withRoom words map ≡ refused 14 p → ⊥
+  room-number p e =
+      by-cases (then-refused _ (read words) 14 p .0 e)
+      (λ q. by-cases (read-number present words 14 p q) (λ n. omega arith) (λ n. omega arith))
+      (λ r. by-cases (then-refused _ (mapFits (r .0) map) 14 p .0 (r .2)) (λ q. omega (arith, fits-number (r .0) map 14 p q)) (λ q. given-refused (q .2)))
 
   room-made : (s : Set) → withRoom words map ≡ given s → Mapped (read words) map (over (mapOf s) map)
   unfolding setOf
@@ -92,5 +94,5 @@ module _ (words map : List ℕ) where
     unfolding ifGiven
     short-made place e =
         by-cases (then-refused _ (withRoom words map) 14 place .0 e)
-        (λ q. absurd (omega (arith, room-number 14 place q)))
+        (λ q. absurd (room-number place q))
         (λ r. rw (r .1) (room-made (r .0) (r .1)))

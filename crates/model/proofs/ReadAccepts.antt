@@ -1,17 +1,18 @@
--- The reading accepts the words of each well-formed set, and answers that set.
+-- The reading accepts the words of each set that its rules take for well formed, and answers that set.
 use Prim.Native.Nat.{ℕ, suc, _+_, _<_, _≤_}
 use native.Mathlib.Omega.{arith}
 use native.Mathlib.Nat.{add-zero, zero-add}
 use mathlib.Core.Path.{_≡_, refl, sym, ap, ap₂, _∙_}
-use mathlib.Core.Bool.{true, false}
+use mathlib.Core.Bool.{true, false, not}
 use mathlib.Core.List.{List, [], _∷_, _++_, map, append-nil, append-assoc}
 use lib.ListN.{length, length-append, length-map}
 use borrow.Author.Tests.{lt-ltb, le-ltb, le-leb, lt-leb, eq-eqb, ne-eqb}
-use Rattle.model.specs.Set.{Action, claim, release, deviceOf, Task, Set, lengths, size, balanced, GoodTask}
-use Rattle.model.specs.Layout.{word, DEVICE, TASK, CLAIM, RELEASE, END, actionWord, taskWords, body, withEnd, encode, WellFormed}
-use Rattle.model.specs.Answer.{given}
-use Rattle.model.specs.Read.{lastTask, heldAfter, note, outOfOrder, fieldAllowed, tooMany, close, readFrom, read}
+use Rattle.model.specs.Set.{Action, claim, release, deviceOf, Task, Set, lengthsOf, claimed, size, balanced, GoodTask}
+use Rattle.model.specs.Layout.{word, DEVICE, TASK, CLAIM, RELEASE, END, actionWord, taskWords, body, withEnd, encode, Rules, WellFormedBy}
+use Rattle.model.specs.Answer.{given, _then_}
+use Rattle.model.specs.Read.{lastTask, heldAfter, note, outOfOrder, fieldAllowed, tooMany, readFrom, readWords, firstUnclaimed, close, readBy}
 use Rattle.model.proofs.Bools.{any-none}
+use Rattle.model.proofs.Counts.{none-lowest}
 use Rattle.model.proofs.Held.{EachPlace, Declared, count-add, last-added, action-added, held-append, releases, balanced-first, balanced-next, balanced-close}
 use Rattle.model.proofs.Words.{setWith}
 use Rattle.model.proofs.Faults.{scanOf, Passes, read-word}
@@ -148,14 +149,12 @@ module _ (cs : List ℕ) (few : length cs ≤ 16) where
         rw (append-assoc ts (t ∷ []) us) at (later .1),
       )
 
-  ends : (ts : List Task) (i : ℕ) → 1 ≤ length ts → i < 4096 → Closed (length cs) ts → size (lengths ts) ≤ 65536
+  ends : (ts : List Task) (i : ℕ) → 1 ≤ length ts → i < 4096 → Closed (length cs) ts
       → readFrom (scanOf cs ts) i (word END i ∷ []) ≡ given (setWith cs ts)
-  unfolding note readFrom close
-  ends ts i some l none grid =
-      read-word (scanOf cs ts) i END i [] (omega arith) (pass-end cs ts i some none)
-      ∙ rw (le-ltb 65536 (size (lengths ts)) grid)
+  unfolding note readFrom
+  ends ts i some l none = read-word (scanOf cs ts) i END i [] (omega arith) (pass-end cs ts i some none)
 
-from-nothing : (s : Set) → WellFormed s → readFrom (scanOf [] []) 0 (encode s) ≡ given s
+from-nothing : {rules : Rules} (s : Set) → WellFormedBy rules s → readFrom (scanOf [] []) 0 (encode s) ≡ given s
 unfolding body withEnd heldAfter lastTask
 from-nothing s w =
     let cs = s .capacities in
@@ -170,16 +169,28 @@ from-nothing s w =
     ∙ ap (λ (k : ℕ). readFrom (scanOf cs []) k (taskWords ts ++ end)) (zero-add (length cs))
     ∙ read-tasks .0
     ∙ ap (λ (k : ℕ). readFrom (scanOf cs ts) k end) size
-    ∙ ends cs (w .devices) ts n (w .some-task) words (read-tasks .1) (w .grid)
+    ∙ ends cs (w .devices) ts n (w .some-task) words (read-tasks .1)
 
-pub read-complete : (s : Set) → WellFormed s → read (encode s) ≡ given s
-unfolding read withEnd
-read-complete s w =
+words-complete : {rules : Rules} (s : Set) → WellFormedBy rules s → readWords (encode s) ≡ given s
+unfolding readWords withEnd
+words-complete s w =
     let some : length (encode s) ≡ 0 → ⊥ = λ z. omega (arith, length-append (body s) (word END (length (body s)) ∷ [])) in
     rw (ne-eqb (length (encode s)) 0 some, le-ltb 4096 (length (encode s)) (w .words)) (from-nothing s w)
 
+-- a set whose devices are claimed if the rules ask for it, and whose grid is within its limit, is closed
+close-complete : (rules : Rules) (n : ℕ) (s : Set) → WellFormedBy rules s → close rules n s ≡ given s
+unfolding close
+close-complete true n s w =
+    let all = none-lowest (length (s .capacities)) (λ d. not (claimed (s .tasks) d)) (λ d h. rw (w .each-device refl d h)) in
+    rw (le-ltb (firstUnclaimed s) (length (s .capacities)) (omega (arith, all)), le-ltb 65536 (size (lengthsOf s)) (w .grid))
+close-complete false n s w = rw (le-ltb 65536 (size (lengthsOf s)) (w .grid))
+
+pub read-complete : (rules : Rules) (s : Set) → WellFormedBy rules s → readBy rules (encode s) ≡ given s
+unfolding readBy _then_
+read-complete rules s w = rw (words-complete s w) (close-complete rules (length (encode s)) s w)
+
 -- two well-formed sets with the same words are the same
-pub encode-injective : (s r : Set) → WellFormed s → WellFormed r → encode s ≡ encode r → s ≡ r
+pub encode-injective : {rules : Rules} (s r : Set) → WellFormedBy rules s → WellFormedBy rules r → encode s ≡ encode r → s ≡ r
 encode-injective s r w v e =
-    let both : given s ≡ given r = sym (read-complete s w) ∙ ap read e ∙ read-complete r v in
+    let both : given s ≡ given r = sym (words-complete s w) ∙ ap readWords e ∙ words-complete r v in
     cc

@@ -1,19 +1,21 @@
--- The reading accepts no words but those of a well-formed set: it is exact.
+-- The reading accepts no words but those of a set that its rules take for well formed: it is exact.
 use Prim.Native.Nat.{ℕ, suc, _<_, _≤_}
 use native.Mathlib.Omega.{arith}
 use mathlib.Core.Path.{_≡_, refl, sym, ap, ap₂, subst, _∙_}
 use mathlib.Core.Logic.{_↔_}
-use mathlib.Core.Bool.{Bool, true, false}
+use mathlib.Core.Bool.{Bool, true, false, not, _&&_}
 use mathlib.Core.List.{List, [], _∷_, _++_, append-nil, append-assoc}
 use lib.ListN.{length, length-append}
 use lib.Seq.{append-snoc}
 use lib.Dec.{eqb, ltb, leb}
 use borrow.Author.Tests.{ltb-true, ltb-false, leb-true, leb-false, eqb-true, eqb-false, not-false}
-use Rattle.model.specs.Set.{Action, claim, release, deviceOf, Task, Set, lengths, size, balanced, GoodTask}
-use Rattle.model.specs.Layout.{word, DEVICE, TASK, CLAIM, RELEASE, END, actionWord, taskWords, body, withEnd, encode, WellFormed}
+use Rattle.model.specs.Set.{Action, claim, release, deviceOf, Task, Set, lengthsOf, claimed, size, balanced, GoodTask}
+use Rattle.model.specs.Layout.{word, DEVICE, TASK, CLAIM, RELEASE, END, actionWord, taskWords, body, withEnd, encode, Rules, present, WellFormedBy}
 use Rattle.model.specs.Answer.{given}
-use Rattle.model.specs.Read.{lastTask, addAction, heldAfter, note, outOfOrder, fieldAllowed, tooMany, holdsSome, close, readFrom, read}
+use Rattle.model.specs.Read.{lastTask, addAction, heldAfter, note, outOfOrder, fieldAllowed, tooMany, holdsSome, readFrom, readWords, firstUnclaimed, close, readBy}
 use Rattle.model.proofs.Bools.{by-bool, true-not-false, and-true, any-false}
+use Rattle.model.proofs.Answers.{then-given}
+use Rattle.model.proofs.Counts.{below-lowest}
 use Rattle.model.proofs.Held.{EachPlace, place-added, Declared, count-add, last-added, action-added, held-append, held-unnamed, releases, balanced-on}
 use Rattle.model.proofs.Words.{setWith, body-device, body-task, body-action}
 use Rattle.model.proofs.Faults.{scanOf, WordRead, not-refused, word-reads, by-kind}
@@ -71,20 +73,24 @@ opens : (cs : List ℕ) (ts : List Task) → Sound cs ts → length ts < 8 → O
 unfolding heldAfter
 opens cs ts o room = record { before = o; count = room; actions = omega arith; declared = λ p k. absurd (omega arith); balance = λ d u. refl }
 
--- after END there is no word, and the grid is within its limit
-after-end : (s r : Set) (i : ℕ) (ws : List ℕ) → readFrom (record { set = s; ended = true }) i ws ≡ given r
-    → (ws ≡ []) × (size (lengths (s .tasks)) ≤ 65536) × (s ≡ r)
-unfolding readFrom close
-after-end s r i [] e =
-    let g = size (lengths (s .tasks)) in
-    let p = not-refused (ltb 65536 g) _ _ (given s) r e in
-    let same = p .1 in (refl, ltb-false 65536 g (p .0), (cc))
+-- after END there is no word
+after-end : (s r : Set) (i : ℕ) (ws : List ℕ) → readFrom (record { set = s; ended = true }) i ws ≡ given r → (ws ≡ []) × (s ≡ r)
+unfolding readFrom
+after-end s r i [] e = (refl, (cc))
 after-end s r i (w ∷ ws) e = true-not-false true refl (word-reads (record { set = s; ended = true }) i w ws r e .passes .before-end)
+
+-- some task claims each device, if the rules ask for it
+abbrev pub EachDevice : Rules → Set → Type 0
+EachDevice rules s = rules ≡ present → (d : ℕ) → d < length (s .capacities) → claimed (s .tasks) d ≡ true
+
+-- what is left to ask of a set whose words have no fault: its grid, and claims
+abbrev pub ClosesWell : Set → Type 0
+ClosesWell s = (rules : Rules) → EachDevice rules s → size (lengthsOf s) ≤ 65536 → WellFormedBy rules s
 
 module _ (all : List ℕ) (short : length all ≤ 4096) (r : Set) where
   -- all words are those of the set r
   abbrev Found : Type 0
-  Found = (all ≡ encode r) × WellFormed r
+  Found = (all ≡ encode r) × ClosesWell r
 
   -- all words are those of cs and ts and then ws, and from there ws is accepted
   record Takes (cs : List ℕ) (ts : List Task) (ws : List ℕ) : Type 0 where
@@ -113,17 +119,18 @@ module _ (all : List ℕ) (short : length all ≤ 4096) (r : Set) where
       let here : w ≡ word END (length b) = x .made ∙ ap (word END) (eqb-true f (length b) (x .passes .field)) in
       let whole : all ≡ encode s = sym (e .words) ∙ ap₂ (λ (v : ℕ) (l : List ℕ). b ++ (v ∷ l)) here (done .0) in
       let some = eqb-false (length ts) 0 (x .passes .order) in
-      let well : WellFormed s =
+      let well : ClosesWell s = λ rules devices grid.
       record {
         capacities = o .capacities;
         devices = o .devices;
         some-task = omega (arith, some);
         tasks = o .tasks;
         each-task = o .each-task;
-        grid = done .1;
+        each-device = devices;
+        grid = grid;
         words = subst (λ (l : List ℕ). length l ≤ 4096) whole short;
       } in
-      subst (λ (q : Set). (all ≡ encode q) × WellFormed q) (done .2) (whole, well)
+      subst (λ (q : Set). (all ≡ encode q) × ClosesWell q) (done .1) (whole, well)
 
   by-device : (cs : List ℕ) (w : ℕ) (ws : List ℕ) (f : ℕ) → Sound cs [] → Takes cs [] (w ∷ ws) → ReadHere cs [] w ws DEVICE f
       → Sound (cs ++ (f ∷ [])) [] × Takes (cs ++ (f ∷ [])) [] ws
@@ -175,7 +182,7 @@ module _ (all : List ℕ) (short : length all ≤ 4096) (r : Set) where
 
   -- ---- the words left, with a task open, and before the first TASK
   in-task : (ws : List ℕ) (cs : List ℕ) (ts : List Task) (t : Task) → OpenScan cs ts t → Takes cs (ts ++ (t ∷ [])) ws → Found
-  unfolding readFrom close outOfOrder
+  unfolding readFrom outOfOrder
   in-task [] cs ts t o e = absurd (let z : _≡_ {A = ℕ} 0 1 = cc (e .taken) in omega arith)
   in-task (w ∷ ws) cs ts t o e =
       let us = ts ++ (t ∷ []) in
@@ -187,7 +194,7 @@ module _ (all : List ℕ) (short : length all ≤ 4096) (r : Set) where
       (λ f x. by-end cs us w ws f (closes cs ts t o (x .passes .closed)) e x)
 
   in-devices : (ws cs : List ℕ) → Sound cs [] → Takes cs [] ws → Found
-  unfolding readFrom close outOfOrder
+  unfolding readFrom outOfOrder
   in-devices [] cs o e = absurd (let z : _≡_ {A = ℕ} 0 1 = cc (e .taken) in omega arith)
   in-devices (w ∷ ws) cs o e =
       by-kind (scanOf cs []) (length (body (setWith cs []))) w ws r (e .taken)
@@ -197,16 +204,40 @@ module _ (all : List ℕ) (short : length all ≤ 4096) (r : Set) where
       (λ f x. true-not-false true refl (x .passes .order))
       (λ f x. true-not-false true refl (x .passes .order))
 
--- accepted words are those of the set answered, and that is well formed
-pub read-sound : (ws : List ℕ) (s : Set) → read ws ≡ given s → (ws ≡ encode s) × WellFormed s
-unfolding read body taskWords
-read-sound ws s e =
+-- words without a fault are those of the set that they declare
+pub words-sound : (ws : List ℕ) (s : Set) → readWords ws ≡ given s → (ws ≡ encode s) × ClosesWell s
+unfolding readWords body taskWords
+words-sound ws s e =
     let p = not-refused (eqb (length ws) 0) 1 0 _ s e in
     let q = not-refused (ltb 4096 (length ws)) 2 4096 _ s (p .1) in
     let nothing : Sound [] [] =
     record { capacities = λ d h. absurd (omega arith); devices = omega arith; tasks = omega arith; each-task = λ t h. absurd (omega arith) } in
     in-devices ws (ltb-false 4096 (length ws) (q .0)) s ws [] nothing (record { words = refl; taken = q .1 })
 
--- the reading accepts the sets of the layout and no others
-pub read-exact : (ws : List ℕ) (s : Set) → (read ws ≡ given s) ↔ ((ws ≡ encode s) × WellFormed s)
-read-exact ws s = (read-sound ws s, λ h. ap read (h .0) ∙ read-complete s (h .1))
+-- a set that is closed is the one that was declared, its grid is within its limit, and its devices are as the rules ask
+close-sound : (rules : Rules) (n : ℕ) (s r : Set) → close rules n s ≡ given r → (s ≡ r) × EachDevice rules s × (size (lengthsOf s) ≤ 65536)
+unfolding close
+close-sound rules n s r e =
+    let devices = length (s .capacities) in
+    let p = not-refused (rules && ltb (firstUnclaimed s) devices) 24 _ _ r e in
+    let q = not-refused (ltb 65536 (size (lengthsOf s))) 12 _ (given s) r (p .1) in
+    let same = q .1 in (
+      (cc),
+      (λ k d h.
+          let all = ltb-false (firstUnclaimed s) devices (rw k at (p .0)) in
+          not-false _ (below-lowest devices (λ d. not (claimed (s .tasks) d)) d (omega arith))),
+      ltb-false 65536 (size (lengthsOf s)) (q .0),
+    )
+
+-- accepted words are those of the set answered, and that is well formed
+pub read-sound : {rules : Rules} (ws : List ℕ) (s : Set) → readBy rules ws ≡ given s → (ws ≡ encode s) × WellFormedBy rules s
+unfolding readBy
+read-sound {rules} ws s e =
+    let r = then-given (close rules (length ws)) (readWords ws) s .0 e in
+    let w = words-sound ws (r .0) (r .1) in
+    let c = close-sound rules (length ws) (r .0) s (r .2) in
+    subst (λ (q : Set). (ws ≡ encode q) × WellFormedBy rules q) (c .0) (w .0, w .1 rules (c .1) (c .2))
+
+-- the reading accepts the sets that its rules take for well formed, and no others
+pub read-exact : (rules : Rules) (ws : List ℕ) (s : Set) → (readBy rules ws ≡ given s) ↔ ((ws ≡ encode s) × WellFormedBy rules s)
+read-exact rules ws s = (read-sound ws s, λ h. ap (readBy rules) (h .0) ∙ read-complete rules s (h .1))

@@ -9,7 +9,7 @@ use lib.Seq.{take-suc}
 use lib.Dec.{eqb}
 use borrow.Author.Tests.{ltb-true, eqb-true, eqb-false}
 use Rattle.model.specs.Set.{claim, release, Task, Set, lengthsOf, taskAt, actionAt, at}
-use Rattle.model.specs.Layout.{WellFormed}
+use Rattle.model.specs.Layout.{Rules, WellFormedBy}
 use Rattle.model.specs.Read.{heldAfter}
 use Rattle.model.specs.State.{State, InGrid, next, unfinished}
 use Rattle.model.specs.Hold.{holds, holding, unitsAt, held, permitted}
@@ -50,7 +50,7 @@ release-units e d p task here after h a =
     (λ b. by-bool (eqb d e) (λ q. rw (walked, b, q) (omega arith)) (λ q. rw (walked, b, q) (omega arith)))
     (λ b. by-bool (eqb d e) (λ q. rw (walked, b, q) (omega arith)) (λ q. rw (walked, b, q) (omega arith)))
 
-module _ (s : Set) (w : WellFormed s) where
+module _ {rules : Rules} (s : Set) (w : WellFormedBy rules s) where
   abbrev ls : List ℕ
   ls = lengthsOf s
 

@@ -36,3 +36,8 @@ write-then p a us vs h =
     ∙ sym (sets-eq vs (sets p a us) (a + length us) (omega (arith, length-sets p a us)))
     ∙ sym (sets-append p a us vs)
     ∙ sets-eq (us ++ vs) p a (omega (arith, length-append us vs))
+
+-- the same with the second place by its number
+pub write-next : (p : List ℕ) (a : ℕ) (us vs : List ℕ) (b : ℕ) → b ≡ a + length us → a + length us + length vs ≤ length p
+    → write (write p a us) b vs ≡ write p a (us ++ vs)
+write-next p a us vs b e h = ap (λ (i : ℕ). write (write p a us) i vs) e ∙ write-then p a us vs h

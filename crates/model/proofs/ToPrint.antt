@@ -6,8 +6,8 @@ use mathlib.Core.Logic.{inl, inr}
 use mathlib.Core.List.{List}
 use lib.ListN.{length, take, drop}
 use lib.Seq.{take-at}
-use borrow.Author.Tests.{lt-ltb, le-ltb}
-use Rattle.model.specs.Answer.{Answer, given, refused, _then_, ifGiven}
+use borrow.Author.Tests.{le-ltb}
+use Rattle.model.specs.Answer.{given, refused, _then_, ifGiven}
 use Rattle.model.specs.Set.{Set, lengthsOf, size}
 use Rattle.model.specs.Read.{read}
 use Rattle.model.specs.Record.{mapFits}
@@ -18,6 +18,7 @@ use Rattle.model.proofs.Bools.{by-cases}
 use Rattle.model.proofs.Answers.{given-refused, given-value, then-refused, then-given}
 use Rattle.model.proofs.ReadExact.{read-sound}
 use Rattle.model.proofs.Outcome.{plan-given, room-given}
+use Rattle.model.proofs.FileShown.{in-long, in-short, by-words, by-none}
 
 module _ (words map plan : List ℕ) (all : 65536 ≤ length map) (most : length plan ≡ 16384) where
   -- what there is to print of a set is what fits into the plan slice
@@ -64,18 +65,17 @@ module _ (words map plan : List ℕ) (all : 65536 ≤ length map) (most : length
 module _ (bs : List ℕ) where
   -- by what the bytes are
   pub of-words : (ws : List ℕ) → wordsOf bs ≡ given ws → printed bs ≡ textOf (read ws then toPrint)
-  unfolding _then_
-  of-words ws e = ap textOf (ap (λ (a : Answer (List ℕ)). a then λ ws. read ws then toPrint) e)
+  of-words = by-words (λ ws. read ws then toPrint) textOf bs
 
   pub of-none : (n p : ℕ) → wordsOf bs ≡ refused n p → printed bs ≡ refusalLine n p
-  unfolding _then_ textOf
-  of-none n p e = ap textOf (ap (λ (a : Answer (List ℕ)). a then λ ws. read ws then toPrint) e)
+  unfolding textOf
+  of-none = by-none (λ ws. read ws then toPrint) textOf bs
 
   -- into a slice that is long enough, and into one that is not
   pub long-enough : (slice : List ℕ) → TEXT ≤ length slice → shown (printed bs) slice ≡ printedIn bs slice
   unfolding printedIn
-  long-enough slice h = rw (le-ltb (length slice) TEXT h)
+  long-enough = in-long TEXT (printed bs)
 
   pub too-short : (slice : List ℕ) → length slice < TEXT → record { count = 0; slice = slice } ≡ printedIn bs slice
   unfolding printedIn
-  too-short slice h = rw (lt-ltb (length slice) TEXT h)
+  too-short = in-short TEXT (printed bs)

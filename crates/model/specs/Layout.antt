@@ -1,10 +1,11 @@
--- The layout of a set (SCOPE.md, "Sets"): its words, and which sets are well formed.
+-- The layout of a set (SCOPE.md, "Sets"): its words, and which sets are well formed, by the present rules and by the former ones.
 use Prim.Native.Nat.{ℕ, _+_, _*_, _/_, _%_, _<_, _≤_}
-use mathlib.Core.Bool.{cond}
+use mathlib.Core.Path.{_≡_}
+use mathlib.Core.Bool.{Bool, true, false, cond}
 use mathlib.Core.List.{List, [], _∷_, _++_, map}
 use lib.ListN.{length}
 use lib.Dec.{eqb}
-use Rattle.model.specs.Set.{Action, claim, release, Task, Set, lengthsOf, taskAt, at, size, GoodTask}
+use Rattle.model.specs.Set.{Action, claim, release, Task, Set, lengthsOf, taskAt, claimed, at, size, GoodTask}
 
 -- a word's top four bits are its kind, the low 28 its field
 abbrev pub word : ℕ → ℕ → ℕ
@@ -60,12 +61,27 @@ withEnd ws = ws ++ (word END (length ws) ∷ [])
 abbrev pub encode : Set → List ℕ
 encode s = withEnd (body s)
 
--- a set within the limits, whose tasks claim, release and close as they should
-pub record WellFormed (s : Set) : Type 0 where
+-- the rules that a set is held to: whether they ask that some task claims each device. The present rules do; the former ones didn't
+abbrev pub Rules : Type 0
+Rules = Bool
+
+abbrev pub present : Rules
+present = true
+
+abbrev pub former : Rules
+former = false
+
+-- a set within the limits, whose tasks claim, release and close as they should, and whose devices are claimed if the rules ask for it
+pub record WellFormedBy (rules : Rules) (s : Set) : Type 0 where
   pub capacities : (d : ℕ) → d < length (s .capacities) → (1 ≤ at (s .capacities) d) × (at (s .capacities) d ≤ 8)
   pub devices : length (s .capacities) ≤ 16
   pub some-task : 1 ≤ length (s .tasks)
   pub tasks : length (s .tasks) ≤ 8
   pub each-task : (t : ℕ) → t < length (s .tasks) → GoodTask (length (s .capacities)) (taskAt s t)
+  pub each-device : rules ≡ present → (d : ℕ) → d < length (s .capacities) → claimed (s .tasks) d ≡ true
   pub grid : size (lengthsOf s) ≤ 65536
   pub words : length (encode s) ≤ 4096
+
+-- by the present rules
+abbrev pub WellFormed : Set → Type 0
+WellFormed = WellFormedBy present

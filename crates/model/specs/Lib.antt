@@ -5,6 +5,7 @@ pub mod Answer
 pub mod Set
 pub mod Layout
 pub mod Read
+pub mod Clean
 pub mod State
 pub mod Hold
 pub mod Since
@@ -21,5 +22,6 @@ pub mod Analysis
 pub mod Broker
 pub mod Route
 pub mod Printed
+pub mod CleanFile
 pub mod StoredPlan
 pub mod Told

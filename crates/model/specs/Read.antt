@@ -1,13 +1,13 @@
--- Reading a set (SCOPE.md, "Refusals", 1 to 12): the words' first fault, or the set that they declare.
+-- Reading a set (SCOPE.md, "Refusals", 1 to 12 and 24): the words' first fault, or the set that they declare.
 use Prim.Native.Nat.{ℕ, suc, _-_}
 use mathlib.Core.Bool.{Bool, true, false, not, cond, _&&_, _||_}
 use mathlib.Core.List.{List, [], _∷_, _++_}
 use lib.ListN.{length}
 use lib.Dec.{eqb, ltb, leb}
-use Rattle.model.specs.Below.{any}
-use Rattle.model.specs.Answer.{Answer, given, refused}
-use Rattle.model.specs.Set.{Action, claim, release, Task, Set, lengthsOf, size}
-use Rattle.model.specs.Layout.{kindOf, fieldOf, DEVICE, TASK, CLAIM, RELEASE, END}
+use Rattle.model.specs.Below.{any, lowest}
+use Rattle.model.specs.Answer.{Answer, given, refused, _then_}
+use Rattle.model.specs.Set.{Action, claim, release, Task, Set, lengthsOf, claimed, size}
+use Rattle.model.specs.Layout.{kindOf, fieldOf, DEVICE, TASK, CLAIM, RELEASE, END, Rules, present}
 
 -- the task opened last, and the tasks with one more action in it
 unfoldable pub lastTask : List Task → Task
@@ -101,26 +101,38 @@ module _ (s : Scan) where
 abbrev pub Reading : Type 0
 Reading = Answer Set
 
--- after n words without a fault: 11 no END, 12 grid over 65,536
-unfoldable pub close : Scan → ℕ → Reading
-close s n =
-    cond (not (s .ended)) (refused 11 n)
-    (cond (ltb 65536 (size (lengthsOf (s .set)))) (refused 12 (n - 1))
-    (given (s .set)))
-
--- the words from index i on: the first fault counts
+-- the words from index i on: the first fault counts; after words without one: 11 no END
 unfoldable pub readFrom : Scan → ℕ → List ℕ → Reading
-readFrom s i [] = close s i
+readFrom s i [] = cond (not (s .ended)) (refused 11 i) (given (s .set))
 readFrom s i (w ∷ ws) =
     let n = fault s i (kindOf w) (fieldOf w) in
     cond (ltb 0 n) (refused n i) (readFrom (note s (kindOf w) (fieldOf w)) (suc i) ws)
 
 -- all words: 1 none, 2 over 4,096
-unfoldable pub read : List ℕ → Reading
-read ws =
+unfoldable pub readWords : List ℕ → Reading
+readWords ws =
     cond (eqb (length ws) 0) (refused 1 0)
     (cond (ltb 4096 (length ws)) (refused 2 4096)
     (readFrom nothingRead 0 ws))
+
+-- the lowest device that no task claims, the number of devices if each is claimed
+abbrev pub firstUnclaimed : Set → ℕ
+firstUnclaimed s = lowest (length (s .capacities)) (λ d. not (claimed (s .tasks) d))
+
+-- the set that n words declare: 24 a device that no task claims, if the rules ask for a claim; 12 grid over 65,536
+unfoldable pub close : Rules → ℕ → Set → Reading
+close rules n s =
+    cond (rules && ltb (firstUnclaimed s) (length (s .capacities))) (refused 24 (firstUnclaimed s))
+    (cond (ltb 65536 (size (lengthsOf s))) (refused 12 (n - 1))
+    (given s))
+
+-- a list of words by these rules
+unfoldable pub readBy : Rules → List ℕ → Reading
+readBy rules ws = readWords ws then close rules (length ws)
+
+-- by the present rules
+abbrev pub read : List ℕ → Reading
+read = readBy present
 
 -- the set that accepted words declare
 unfoldable pub setOf : Reading → Set

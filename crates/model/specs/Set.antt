@@ -1,7 +1,7 @@
 -- The set (SCOPE.md, "Sets"): devices with their capacities, tasks with their actions, and what a task keeps to.
 use Prim.Native.Nat.{ℕ, suc, _*_, _<_, _≤_}
 use mathlib.Core.Path.{_≡_}
-use mathlib.Core.Bool.{Bool, true, false, not, cond, _&&_}
+use mathlib.Core.Bool.{Bool, true, false, not, cond, _&&_, _||_}
 use mathlib.Core.List.{List, [], _∷_, map}
 use lib.ListN.{length, getD}
 use lib.Dec.{eqb}
@@ -43,6 +43,17 @@ taskAt s t = getD (s .tasks) t []
 
 abbrev pub actionAt : Set → ℕ → ℕ → Action
 actionAt s t p = getD (taskAt s t) p (claim 0)
+
+-- whether some action of a task claims device d
+unfoldable pub claims : ℕ → Task → Bool
+claims d [] = false
+claims d (claim e ∷ rest) = eqb e d || claims d rest
+claims d (release e ∷ rest) = claims d rest
+
+-- whether some task claims device d
+unfoldable pub claimed : List Task → ℕ → Bool
+claimed [] d = false
+claimed (task ∷ tasks) d = claims d task || claimed tasks d
 
 -- the number at place t of a list, 0 past its end
 abbrev pub at : List ℕ → ℕ → ℕ

@@ -8,9 +8,9 @@ use Rattle.model.specs.Read.{Reading}
 use Rattle.model.specs.Broker.{Bid, granted, finished, busy, held, Again, restarted}
 use Rattle.model.specs.StoredPlan.{Location, in-forbidden, in-unsafe, in-neither}
 
--- the version of the library, 2.0.0: major times 10,000, minor times 100, patch
+-- the version of the library, 3.0.0: major times 10,000, minor times 100, patch
 abbrev pub VERSION : ℕ
-VERSION = 20000
+VERSION = 30000
 
 -- a kind, a refusal's number and a value; 0 where there is none
 pub record Told : Type 0 where
@@ -65,6 +65,10 @@ tellAgain = tell (λ v. plain 8)
 abbrev pub tellLocation : Answer Location → Told
 tellLocation = tell locationNumbers
 
+-- the cleaner, with the number of words written
+abbrev pub tellCleaned : Answer ℕ → Told
+tellCleaned = tell (λ n. valued 12 n)
+
 -- how a host hears an answer: kind 0 as a refusal, any other kind as a value of the call that it made
 unfoldable pub hear : {A : Type 0} → (Told → A) → Told → Answer A
 hear hears a = cond (eqb (a .kind) 0) (refused (a .refusal) (a .value)) (given (hears a))
@@ -77,7 +81,7 @@ bidHeard a =
     (cond (eqb (a .kind) 6) (busy (a .value))
     (held (a .value))))
 
--- an analysis or a route: the number
+-- an analysis, a route or the cleaner: the number
 abbrev pub hearNumber : Told → Answer ℕ
 hearNumber = hear (λ a. a .value)
 

@@ -1,7 +1,7 @@
 // The numbers of docs/SCOPE.md, by name. What they mean stands in specs/, and the theorems on it in proofs/.
 
 // The version of all that is built from here: major times 10,000, minor times 100, patch. CHANGELOG.md says what moves which.
-pub const VERSION: u32 = 20000;
+pub const VERSION: u32 = 30000;
 
 // The limits of a set.
 pub const MAX_WORDS: usize = 4096;
@@ -75,6 +75,8 @@ pub const NO_END: u8 = 11;
 
 pub const GRID_TOO_LARGE: u8 = 12;
 
+pub const UNCLAIMED_DEVICE: u8 = 24;
+
 // The refusals of lent slices, input bytes, records and calls.
 pub const MAP_TOO_SHORT: u8 = 13;
 
@@ -98,3 +100,6 @@ pub const ROUTE_TOO_SHORT: u8 = 21;
 pub const BAD_TASK_COUNT: u8 = 22;
 
 pub const OUTSIDE_LAYOUT: u8 = 23;
+
+// The cleaner's own refusal.
+pub const CLEAN_TOO_SHORT: u8 = 25;

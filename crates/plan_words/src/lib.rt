@@ -1,4 +1,4 @@
-// The words of a plan: how each kind is made and a side's word taken apart, which no other code knows, and the writing of words and boxes. For the crates that write
+// The words of a plan: how each kind but END is made and a side's word taken apart, which no other code knows, and the writing of words and boxes. For the crates that write
 // plans, and the one that reads them.
 ghost use mathlib.Core.Path.{_≡_};
 ghost use mathlib.Core.Bool.{cond};
@@ -6,7 +6,7 @@ ghost use mathlib.Core.List.{[], _∷_};
 ghost use Prim.Native.Nat.{_≤_, _<_};
 ghost use lib.ListN.{length, take, set};
 ghost use lib.Dec.{eqb};
-ghost use Rattle.model.specs.Layout.{word, END};
+ghost use Rattle.model.specs.Layout.{word};
 ghost use Rattle.model.specs.Hold.{within};
 ghost use Rattle.model.specs.Plan.{FORBIDDEN-BOX, UNSAFE-BOX, sideWord, sideOf};
 ghost use Rattle.model.specs.StoredPlan.{isSide};
@@ -18,8 +18,6 @@ const FORBIDDEN_WORD: u32 = model::FORBIDDEN_BOX * model::FIELDS;
 const UNSAFE_WORD: u32 = model::UNSAFE_BOX * model::FIELDS;
 
 const SIDE_WORD: u32 = model::SIDE * model::FIELDS;
-
-const END_WORD: u32 = model::END * model::FIELDS;
 
 // A side's field is its task, lowest and highest position, a byte each.
 const TASK_UNIT: u32 = 65536;
@@ -99,14 +97,6 @@ pub fn rank_word(kind: u32, rank: usize) -> u32
     ensures { λ r. ⌜ r ≡ word kind rank ⌝ }
 {
     kind * model::FIELDS + rank as u32
-}
-
-// The last word, after so many.
-pub fn end(before: usize) -> u32
-    requires { ⌜ before < 268435456 ⌝ }
-    ensures { λ r. ⌜ r ≡ word END before ⌝ }
-{
-    END_WORD + before as u32
 }
 
 // One word, written if it fits.

@@ -1,25 +1,14 @@
 // The printer: reads a set from standard input and prints its plan, a word a line, or the refusal (SCOPE.md, "Printer"). It only reads, calls and writes: what is
 // printed of which bytes is `printing::print`'s contract. A read or a write that fails is told on standard error.
-mod arguments;
-mod input;
-
-use arguments::Asked;
 use libc::STDERR_FILENO;
 use libc::STDOUT_FILENO;
-
-// One byte more than a set's file may have is read, to tell that there are too many.
-const INPUT: usize = listing::MAX_BYTES + 1;
-
-// The parts of a version's number.
-const MAJOR: u32 = 10000;
-
-const MINOR: u32 = 100;
+use program::Asked;
 
 fn main() {
-    match arguments::read() {
-        Asked::Plan => print_set(),
+    match program::read_arguments() {
+        Asked::Work => print_set(),
         Asked::Help => written(print_help()),
-        Asked::Version => written(print_version()),
+        Asked::Version => written(program::print_version(b"printer ")),
         Asked::Other => {
             io::write_all(
                 STDERR_FILENO,
@@ -30,8 +19,8 @@ fn main() {
 }
 
 fn print_set() {
-    let mut bytes = [0u8; INPUT];
-    let read = input::read_all(&mut bytes);
+    let mut bytes = [0u8; listing::INPUT];
+    let read = program::read_all(&mut bytes);
     if read.failed {
         os::fail(b"printer: can't read standard input");
         return;
@@ -44,9 +33,7 @@ fn print_set() {
 
 // Says it where something was not written.
 fn written(all: bool) {
-    if !all {
-        os::fail(b"printer: can't write standard output");
-    }
+    program::written(all, b"printer: can't write standard output");
 }
 
 fn print_help() -> bool {
@@ -54,15 +41,4 @@ fn print_help() -> bool {
         STDOUT_FILENO,
         b"usage: printer < SETFILE\n\nReads a set from standard input, four bytes a word, the lowest first, and prints its plan, a word of eight\nhexadecimal digits on a line, or one line 'refused N at P'.\n\n  --help      prints this\n  --version   prints the version\n\nA read or a write that fails is told on standard error. The exit status is 0 in every case: tools/plan.py\nruns the printer and ends with 0 for a plan, 1 for a refusal and 2 for a failure.\n",
     )
-}
-
-fn print_version() -> bool {
-    io::write_all(STDOUT_FILENO, b"printer ")
-        && print_part(model::VERSION / MAJOR, b".")
-        && print_part(model::VERSION / MINOR % MINOR, b".")
-        && print_part(model::VERSION % MINOR, b"\n")
-}
-
-fn print_part(n: u32, after: &[u8]) -> bool {
-    io::print_decimal(STDOUT_FILENO, n as u64) && io::write_all(STDOUT_FILENO, after)
 }

@@ -1,6 +1,6 @@
 -- Where the words in a row stop: at the end of the words, at a fault, or at END, and what comes after END.
 use Prim.Native.Nat.{ℕ, suc, _+_, _-_, _≤_, _<_}
-use mathlib.Core.Path.{_≡_, refl, ap, _∙_}
+use mathlib.Core.Path.{_≡_, ap, _∙_}
 use mathlib.Core.List.{List}
 use mathlib.Core.Bool.{true, false}
 use native.Mathlib.Nat.{le-antisymm}
@@ -13,7 +13,7 @@ use lib.Seq.{drop-cons}
 use Rattle.model.specs.Set.{at}
 use Rattle.model.specs.Layout.{kindOf, fieldOf}
 use Rattle.model.specs.Answer.{refused}
-use Rattle.model.specs.Read.{note, fault, readFrom}
+use Rattle.model.specs.Read.{note, fault, readFrom, readWords}
 use Rattle.model.specs.Read as model
 use Rattle.model.proofs.Bools.{by-bool}
 use Rattle.reader.specs.declared.scan.Scan.{Scan}
@@ -57,15 +57,15 @@ module _ (ws : List ℕ) (s : Scan) (i : ℕ) (here : Reached ws s i) where
   f = fieldOf (at ws i)
 
   -- no word is left
-  pub no-end : length ws ≤ i → model.read ws ≡ refused 11 (length ws)
-  unfolding readFrom model.close
+  pub no-end : length ws ≤ i → readWords ws ≡ refused 11 (length ws)
+  unfolding readFrom
   no-end h = here .rest ∙ rw (drop-of-length-le ws h, here .limits .running, le-antisymm (here .within) h)
 
   same-fault : wordFault s i k f ≡ fault m i k f
   same-fault = ap (λ (x : Scan). wordFault x i k f) (here .same) ∙ word-fault m i (here .limits) k f
 
   module _ (h : i < length ws) where
-    pub fault-here : 0 < wordFault s i k f → model.read ws ≡ refused (wordFault s i k f) i
+    pub fault-here : 0 < wordFault s i k f → readWords ws ≡ refused (wordFault s i k f) i
     unfolding readFrom
     fault-here z = here .rest ∙ rw (drop-cons ws i 0, ← same-fault, lt-ltb 0 (wordFault s i k f) z)
 
@@ -77,12 +77,12 @@ module _ (ws : List ℕ) (s : Scan) (i : ℕ) (here : Reached ws s i) where
       abbrev after : model.Scan
       after = record { set = m .set; ended = true }
 
-      goes-on : model.read ws ≡ readFrom after (suc i) (drop (suc i) ws)
+      goes-on : readWords ws ≡ readFrom after (suc i) (drop (suc i) ws)
       unfolding readFrom note
       goes-on = here .rest ∙ rw (drop-cons ws i 0, ← same-fault, free, is-end)
 
       -- a word after it
-      pub after-end : i + 1 < length ws → model.read ws ≡ refused 3 (i + 1)
+      pub after-end : i + 1 < length ws → readWords ws ≡ refused 3 (i + 1)
       unfolding readFrom fault
       after-end l = goes-on ∙ rw (← add-one i, drop-cons ws (i + 1) 0)
 
@@ -93,9 +93,9 @@ module _ (ws : List ℕ) (s : Scan) (i : ℕ) (here : Reached ws s i) where
           let all : suc i ≡ length ws = omega arith in
           record {
             scan = after;
-            ended = refl;
+            devices = here .limits .devices;
             tasks = here .limits .tasks;
             same = here .same;
-            rest = goes-on ∙ rw (all, drop-of-length-le ws {i = length ws} (omega arith));
+            read = goes-on ∙ rw (all, drop-of-length-le ws {i = length ws} (omega arith));
             some = omega arith;
           }

@@ -12,12 +12,12 @@ use Rattle.reader.specs.declared.Reading.{Reading}
 use Rattle.reader.specs.declared.Verdict.the-variants.{Accepted, Refused}
 use Rattle.reader.specs.Answer.{verdictOf, answer}
 
-of-accepted : (x : model.Reading) → verdictOf x ≡ Accepted → x ≡ given (setOf x)
+pub of-accepted : (x : model.Reading) → verdictOf x ≡ Accepted → x ≡ given (setOf x)
 unfolding verdictOf setOf
 of-accepted (given s) e = refl
 of-accepted (refused n p) e = absurd (let z : _≡_ {A = ℕ} 0 1 = cc in omega arith)
 
-of-refused : (x : model.Reading) (n p : ℕ) → verdictOf x ≡ Refused n p → x ≡ refused n p
+pub of-refused : (x : model.Reading) (n p : ℕ) → verdictOf x ≡ Refused n p → x ≡ refused n p
 unfolding verdictOf
 of-refused (given s) n p e = cc
 of-refused (refused m q) n p e = cc

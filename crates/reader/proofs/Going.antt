@@ -2,7 +2,7 @@
 use Prim.Native.Nat.{ℕ, suc, _+_, _-_, _≤_, _<_}
 use mathlib.Core.Path.{_≡_, refl, sym, ap, _∙_}
 use mathlib.Core.List.{List}
-use mathlib.Core.Bool.{Bool, cond}
+use mathlib.Core.Bool.{Bool, true, cond}
 use native.Mathlib.Numerals.{add-one}
 use native.Mathlib.Omega.{arith}
 use borrow.Author.Tests.{lt-ltb}
@@ -23,16 +23,16 @@ use Rattle.reader.proofs.Steps.{added, added-limits, opened, opened-lim
 
 -- with one device more, of capacity f
 abbrev pub withDevice : Scan → ℕ → Scan
-withDevice s f = scanned (s .devices + 1) (set (s .capacities) (s .devices) f) (s .tasks) (s .lengths) (s .starts) (s .held)
+withDevice s f = scanned (s .devices + 1) (set (s .capacities) (s .devices) f) (s .tasks) (s .lengths) (s .starts) (s .held) (s .claimed)
 
 -- with one task more, opened at index i
 abbrev pub withTask : Scan → ℕ → Scan
-withTask s i = scanned (s .devices) (s .capacities) (s .tasks + 1) (s .lengths) (set (s .starts) (s .tasks) (i + 1)) (s .held)
+withTask s i = scanned (s .devices) (s .capacities) (s .tasks + 1) (s .lengths) (set (s .starts) (s .tasks) (i + 1)) (s .held) (s .claimed)
 
 -- with one action more in the last task, a CLAIM (b) or a RELEASE of device f
 abbrev withAction : Scan → Bool → ℕ → Scan
 withAction s b f =
-    scanned (s .devices) (s .capacities) (s .tasks) (set (s .lengths) (s .tasks - 1) (at (s .lengths) (s .tasks - 1) + 1)) (s .starts) (set (s .held) f b)
+    scanned (s .devices) (s .capacities) (s .tasks) (set (s .lengths) (s .tasks - 1) (at (s .lengths) (s .tasks - 1) + 1)) (s .starts) (set (s .held) f b) (set (s .claimed) f true)
 
 module _ (ws : List ℕ) (s : Scan) (i : ℕ) (here : Reached ws s i) where
   pub few-devices : s .devices ≤ 16
@@ -75,7 +75,7 @@ module _ (ws : List ℕ) (s : Scan) (i : ℕ) (here : Reached ws s i) where
       let ts = m .set .tasks in
       rw (here .same) (rw (length-map {B = ℕ} ts length) at (padded-past 8 (lengths ts)))
 
-  pub opens : i < length ws → k ≡ 2 → taskFault (s .tasks) (s .held) f ≡ 0 → Opened ws (withTask s i) (s .devices) (s .tasks + 1) (s .held) (i + 1)
+  pub opens : i < length ws → k ≡ 2 → taskFault (s .tasks) (s .held) f ≡ 0 → Opened ws (withTask s i) (s .devices) (s .tasks + 1) (s .held) (s .claimed) (i + 1)
   opens h kind free =
       let faultless : fault m i 2 f ≡ 0 = sym (task-fault m i (here .limits) f) ∙ (rw (here .same) at free) in
       let none = sym (some-held m i (here .limits)) ∙ (rw (here .same) at (task-kept (s .tasks) (s .held) f free .1)) in
@@ -88,6 +88,7 @@ module _ (ws : List ℕ) (s : Scan) (i : ℕ) (here : Reached ws s i) where
         device-count = refl;
         task-count = refl;
         holds = refl;
+        claimed-so-far = refl;
         none = rw last none-past;
       }
 
@@ -100,10 +101,10 @@ module _ (ws : List ℕ) (s : Scan) (i : ℕ) (here : Reached ws s i) where
       let named : f < length (m .set .capacities) = rw (here .same) at (action-kept (s .devices) _ _ (s .held) b f free .0) in
       goes-on (withAction s b f) h (rw kind faultless)
       (rw kind (acted-limits m i f (here .limits) some-open b (lt-ltb f (length (m .set .capacities)) named)))
-      (ap (λ (x : Scan). withAction x b f) (here .same) ∙ rw (kind, count-last 8 ts some-open (here .limits .tasks)) (acted m i f (here .limits) some-open b))
+      (ap (λ (x : Scan). withAction x b f) (here .same) ∙ rw (kind, count-last 8 ts some-open (here .limits .tasks)) (acted m i f (here .limits) some-open b faultless))
 
 -- in the task just opened: no action yet, and one more
-module _ (ws : List ℕ) (s : Scan) (devices tasks : ℕ) (held₀ : List Bool) (from : ℕ) (o : Opened ws s devices tasks held₀ from) where
+module _ (ws : List ℕ) (s : Scan) (devices tasks : ℕ) (held₀ claimed₀ : List Bool) (from : ℕ) (o : Opened ws s devices tasks held₀ claimed₀ from) where
   abbrev t : ℕ
   t = s .tasks - 1
 
@@ -112,17 +113,17 @@ module _ (ws : List ℕ) (s : Scan) (devices tasks : ℕ) (held₀ : List Bool) 
       let all : length (s .lengths) ≡ 8 = rw (o .reached .same) (length-tabulate 8 _) in
       omega (arith, few-tasks ws s from (o .reached), all, o .some)
 
-  pub no-action : Reached ws (counted s (from - from) held₀) from
+  pub no-action : Reached ws (counted s (from - from) held₀ claimed₀) from
   no-action =
       let zero : from - from ≡ 0 = omega arith in
       let same : set (s .lengths) t 0 ≡ s .lengths = rw (o .none) at (set-getD (s .lengths) t 0) in
-      rw (zero, same, o .holds) (o .reached)
+      rw (zero, same, o .holds, o .claimed-so-far) (o .reached)
 
-  pub one-action : (held : List Bool) (i : ℕ) → Reached ws (counted s (i - from) held) i → from ≤ i → i < length ws → (b : Bool) → kindOf (at ws i) ≡ cond b 3 4
+  pub one-action : (held claims : List Bool) (i : ℕ) → Reached ws (counted s (i - from) held claims) i → from ≤ i → i < length ws → (b : Bool) → kindOf (at ws i) ≡ cond b 3 4
       → actionFault devices tasks (i - from) held b (fieldOf (at ws i)) ≡ 0
-      → Reached ws (counted s (i + 1 - from) (set held (fieldOf (at ws i)) b)) (i + 1)
-  one-action held i here later h b kind free =
+      → Reached ws (counted s (i + 1 - from) (set held (fieldOf (at ws i)) b) (set claims (fieldOf (at ws i)) true)) (i + 1)
+  one-action held claims i here later h b kind free =
       let now : at (set (s .lengths) t (i - from)) t ≡ i - from = getD-set-same (s .lengths) t (i - from) 0 in-array in
       let more : i - from + 1 ≡ i + 1 - from = omega arith in
-      let next = acts ws (counted s (i - from) held) i here b h kind (o .some) (rw (now, ← o .device-count, ← o .task-count) free) in
+      let next = acts ws (counted s (i - from) held claims) i here b h kind (o .some) (rw (now, ← o .device-count, ← o .task-count) free) in
       rw (now, set-set (s .lengths) t (i - from) (i - from + 1), more) at next

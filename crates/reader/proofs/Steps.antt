@@ -1,24 +1,26 @@
 -- What each kind of word does to the code's scan, where the model finds no fault in it, and the limits that it keeps.
 use Prim.Native.Nat.{ℕ, suc, _+_, _-_, _≤_}
 use mathlib.Core.Path.{_≡_, refl}
-use mathlib.Core.List.{List, [], _∷_}
+use mathlib.Core.List.{List, [], _∷_, _++_}
 use mathlib.Core.Bool.{Bool, true, false, cond}
 use native.Mathlib.Nat.{not-suc-le-zero}
 use native.Mathlib.Omega.{arith}
-use borrow.Author.Tests.{ltb-true, ltb-false, leb-false, eq-eqb, ne-eqb}
+use borrow.Author.Tests.{ltb-true, ltb-false, leb-false, eq-eqb, ne-eqb, not-false}
 use lib.ListN.{length, set, length-append}
 use lib.Dec.{eqb, ltb}
 use Rattle.model.specs.Below.{any, tabulate}
-use Rattle.model.specs.Set.{Task, lengths}
+use Rattle.model.specs.Set.{Task, lengths, claimed}
 use Rattle.model.specs.Layout.{taskWords}
 use Rattle.model.specs.Read.{lastTask, addAction, heldAfter, nothingRead, note, holdsNow, outOfOrder, tooMany, fault}
 use Rattle.model.specs.Read as model
+use Rattle.model.proofs.Bools.{true-not-false}
 use Rattle.model.proofs.Held.{count-add, last-added}
 use Rattle.model.proofs.Faults.{fault-passes}
 use Rattle.shape.specs.ShapeOf.{padded, startsFrom}
 use Rattle.reader.specs.Follow.{scanned, scanOf, Limits}
 use Rattle.reader.proofs.Arrays.{padded-add}
 use Rattle.model.proofs.Lists.{tabulate-cong, tabulate-set}
+use Rattle.reader.proofs.Claims.{claimed-open, claimed-named}
 use Rattle.reader.proofs.Held.{none-passes}
 use Rattle.reader.proofs.LastTask.{act, counts-open, start-open, words-open, tasks-act, last-act, words-act, starts-act, count-act, held-act}
 
@@ -40,7 +42,7 @@ module _ (m : model.Scan) (i f : ℕ) (ok : Limits m i) where
   -- ---- DEVICE of capacity f, before any task
   pub added : length ts ≤ 0
       → scanned (length cs + 1) (set (padded 16 cs) (length cs) f) (length ts) (padded 8 (lengths ts)) (padded 8 (startsFrom (length cs) ts))
-      (tabulate 16 (holdsNow m)) ≡ scanOf (note m 1 f)
+      (tabulate 16 (holdsNow m)) (tabulate 16 (claimed ts)) ≡ scanOf (note m 1 f)
   unfolding note startsFrom
   added h = rw (no-task ts h, padded-add 16 cs f, length-append cs (f ∷ []))
 
@@ -60,7 +62,7 @@ module _ (m : model.Scan) (i f : ℕ) (ok : Limits m i) where
   -- ---- TASK at index i, where nothing is held
   pub opened : any (length cs) (holdsNow m) ≡ false
       → scanned (length cs) (padded 16 cs) (length ts + 1) (padded 8 (lengths ts)) (set (padded 8 (startsFrom (length cs) ts)) (length ts) (i + 1))
-      (tabulate 16 (holdsNow m)) ≡ scanOf (note m 2 f)
+      (tabulate 16 (holdsNow m)) (tabulate 16 (claimed ts)) ≡ scanOf (note m 2 f)
   unfolding note heldAfter tabulate
   opened none =
       rw (
@@ -70,6 +72,7 @@ module _ (m : model.Scan) (i f : ℕ) (ok : Limits m i) where
         count-add ts [],
         last-added ts [],
         tabulate-cong 16 (holdsNow m) (λ d. false) (λ d _. none-passes (holdsNow m) (length cs) (ok .declared) none d),
+        tabulate-cong 16 (claimed (ts ++ ([] ∷ []))) (claimed ts) (λ d _. claimed-open d ts),
       )
 
   pub opened-limits : fault m i 2 f ≡ 0 → Limits (note m 2 f) (suc i)
@@ -94,6 +97,11 @@ module _ (m : model.Scan) (i f : ℕ) (ok : Limits m i) where
   is-acted true = refl
   is-acted false = refl
 
+  -- a RELEASE without a fault is one of what is held
+  released : (b : Bool) → fault m i (cond b 3 4) f ≡ 0 → b ≡ false → holdsNow m f ≡ true
+  released true e k = true-not-false true refl k
+  released false e k = not-false _ (fault-passes m i 4 f e .released)
+
   module _ (h : 1 ≤ length ts) where
     held-now : (b : Bool) → set (tabulate 16 (holdsNow m)) f b ≡ tabulate 16 (λ d. heldAfter d false (lastTask (addAction ts (act b f))))
     held-now b =
@@ -101,10 +109,18 @@ module _ (m : model.Scan) (i f : ℕ) (ok : Limits m i) where
         (rw (last-act ts (act b f) h, held-act f false (lastTask ts) b f, eq-eqb f f refl))
         λ d n. rw (last-act ts (act b f) h, held-act d false (lastTask ts) b f, ne-eqb f d n)
 
-    pub acted : (b : Bool)
+    pub acted : (b : Bool) → fault m i (cond b 3 4) f ≡ 0
         → scanned (length cs) (padded 16 cs) (length ts) (set (padded 8 (lengths ts)) (length ts - 1) (length (lastTask ts) + 1))
-        (padded 8 (startsFrom (length cs) ts)) (set (tabulate 16 (holdsNow m)) f b) ≡ scanOf (note m (cond b 3 4) f)
-    acted b = rw (is-acted b, count-act 8 ts (act b f) h, held-now b, tasks-act ts (act b f), starts-act (length cs) ts (act b f))
+        (padded 8 (startsFrom (length cs) ts)) (set (tabulate 16 (holdsNow m)) f b) (set (tabulate 16 (claimed ts)) f true) ≡ scanOf (note m (cond b 3 4) f)
+    acted b e =
+        rw (
+          is-acted b,
+          count-act 8 ts (act b f) h,
+          held-now b,
+          claimed-named ts b f h (released b e),
+          tasks-act ts (act b f),
+          starts-act (length cs) ts (act b f),
+        )
 
     pub acted-limits : (b : Bool) → ltb f (length cs) ≡ true → Limits (note m (cond b 3 4) f) (suc i)
     acted-limits b named =

@@ -1,14 +1,14 @@
 -- How the code's scan follows the model's word by word: for the contracts of the reader's own functions.
 use Prim.Native.Nat.{ℕ, _+_, _-_, _<_, _≤_}
 use mathlib.Core.Path.{_≡_}
-use mathlib.Core.Bool.{Bool, true, false, cond}
+use mathlib.Core.Bool.{Bool, false, cond}
 use mathlib.Core.List.{List}
 use lib.ListN.{length, set, drop, replicate}
 use Rattle.model.specs.Below.{tabulate}
-use Rattle.model.specs.Set.{lengthsOf, at, size}
-use Rattle.model.specs.Layout.{kindOf, fieldOf, DEVICE, TASK, CLAIM, RELEASE, END, taskWords}
-use Rattle.model.specs.Answer.{refused}
-use Rattle.model.specs.Read.{holdsNow, readFrom}
+use Rattle.model.specs.Set.{lengthsOf, claimed, at, size}
+use Rattle.model.specs.Layout.{kindOf, fieldOf, DEVICE, TASK, CLAIM, RELEASE, END, taskWords, former}
+use Rattle.model.specs.Answer.{given, refused}
+use Rattle.model.specs.Read.{holdsNow, readFrom, readWords}
 use Rattle.model.specs.Read as model
 use Rattle.shape.specs.ShapeOf.{padded, startsFrom, weightsOf}
 use Rattle.reader.specs.declared.scan.Scan.{Scan}
@@ -19,9 +19,9 @@ use Rattle.reader.specs.Answer.{answer}
 use Rattle.reader.specs.Faults.{deviceFault, taskFault, actionFault, wordFault}
 
 -- a scan by its parts
-abbrev pub scanned : ℕ → List ℕ → ℕ → List ℕ → List ℕ → List Bool → Scan
-scanned devices capacities tasks lengths starts held =
-    record { devices = devices; capacities = capacities; tasks = tasks; lengths = lengths; starts = starts; held = held }
+abbrev pub scanned : ℕ → List ℕ → ℕ → List ℕ → List ℕ → List Bool → List Bool → Scan
+scanned devices capacities tasks lengths starts held claims =
+    record { devices = devices; capacities = capacities; tasks = tasks; lengths = lengths; starts = starts; held = held; claimed = claims }
 
 -- the code's scan for a scan of the model
 abbrev pub scanOf : model.Scan → Scan
@@ -29,6 +29,7 @@ scanOf m =
     let cs = m .set .capacities in
     let ts = m .set .tasks in
     scanned (length cs) (padded 16 cs) (length ts) (padded 8 (lengthsOf (m .set))) (padded 8 (startsFrom (length cs) ts)) (tabulate 16 (holdsNow m))
+    (tabulate 16 (claimed ts))
 
 -- what holds of each scan after i words without a fault and before END: the limits, the number of words, and that the open task holds declared devices only
 pub record Limits (m : model.Scan) (i : ℕ) : Type 0 where
@@ -43,24 +44,25 @@ pub record Reached (ws : List ℕ) (s : Scan) (i : ℕ) : Type 0 where
   pub scan : model.Scan
   pub limits : Limits scan i
   pub same : s ≡ scanOf scan
-  pub rest : model.read ws ≡ readFrom scan i (drop i ws)
+  pub rest : readWords ws ≡ readFrom scan i (drop i ws)
   pub within : i ≤ length ws
 
 -- so many devices, and no task yet
 abbrev pub noTasks : ℕ → List ℕ → Scan
-noTasks devices capacities = scanned devices capacities 0 (replicate 8 0) (replicate 8 0) (replicate 16 false)
+noTasks devices capacities = scanned devices capacities 0 (replicate 8 0) (replicate 8 0) (replicate 16 false) (replicate 16 false)
 
--- the scan whose last task has c actions and then holds these devices
-abbrev pub counted : Scan → ℕ → List Bool → Scan
-counted s c held = scanned (s .devices) (s .capacities) (s .tasks) (set (s .lengths) (s .tasks - 1) c) (s .starts) held
+-- the scan whose last task has c actions and then holds these devices, while these are claimed
+abbrev pub counted : Scan → ℕ → List Bool → List Bool → Scan
+counted s c held claims = scanned (s .devices) (s .capacities) (s .tasks) (set (s .lengths) (s .tasks - 1) c) (s .starts) held claims
 
 -- i words led to the opening of the last of so many tasks, with so many devices
-pub record Opened (ws : List ℕ) (s : Scan) (devices tasks : ℕ) (held : List Bool) (i : ℕ) : Type 0 where
+pub record Opened (ws : List ℕ) (s : Scan) (devices tasks : ℕ) (held claims : List Bool) (i : ℕ) : Type 0 where
   pub reached : Reached ws s i
   pub some : 1 ≤ s .tasks
   pub device-count : devices ≡ s .devices
   pub task-count : tasks ≡ s .tasks
   pub holds : held ≡ s .held
+  pub claimed-so-far : claims ≡ s .claimed
   pub none : at (s .lengths) (s .tasks - 1) ≡ 0
 
 -- why the devices stop at index i: the word there, if there is one, is no DEVICE or has a fault
@@ -80,18 +82,18 @@ NoAction ws devices tasks l held i =
 abbrev pub Stops : List ℕ → Scan → ℕ → Type 0
 Stops ws s i = i < length ws → (kindOf (at ws i) ≡ END → ⊥) → 0 < wordFault s i (kindOf (at ws i)) (fieldOf (at ws i))
 
--- the words led to s without a fault, END the last of them, and closing the model's scan gives the answer
+-- the words led to s without a fault, END the last of them, and declare this set
 pub record Ended (ws : List ℕ) (s : Scan) : Type 0 where
   pub scan : model.Scan
-  pub ended : scan .ended ≡ true
+  pub devices : length (scan .set .capacities) ≤ 16
   pub tasks : length (scan .set .tasks) ≤ 8
   pub same : s ≡ scanOf scan
-  pub rest : model.read ws ≡ model.close scan (length ws)
+  pub read : readWords ws ≡ given (scan .set)
   pub some : 0 < length ws
 
 -- what all words come to: the first fault, or a whole set
 pub record ReadsAll (ws : List ℕ) (r : Words) : Type 0 where
-  pub stopped : 0 < r .fault → model.read ws ≡ refused (r .fault) (r .place)
+  pub stopped : 0 < r .fault → readWords ws ≡ refused (r .fault) (r .place)
   pub whole : r .fault ≤ 0 → Ended ws (r .scan)
 
 -- the grid of the action counts ls and the weights of their tasks, or a grid over 65,536 if theirs is
@@ -100,6 +102,6 @@ pub record Weighs (ls : List ℕ) (w : Weights) : Type 0 where
   pub grid : w .grid ≤ 65536 → w .grid ≡ size ls
   pub weights : w .grid ≤ 65536 → w .of ≡ padded 8 (weightsOf ls)
 
--- the answer r after n words without a fault, END the last of them, is the model's
+-- the answer r after n words without a fault, END the last of them, of a set to whose devices the rules don't object
 abbrev pub Closes : Scan → ℕ → Reading → Type 0
-Closes s n r = (m : model.Scan) → m .ended ≡ true → length (m .set .tasks) ≤ 8 → s ≡ scanOf m → r ≡ answer (model.close m n)
+Closes s n r = (m : model.Scan) → length (m .set .tasks) ≤ 8 → s ≡ scanOf m → r ≡ answer (model.close former n (m .set))

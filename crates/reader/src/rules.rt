@@ -1,9 +1,10 @@
 // The rules that a set's words keep, one function each, with the refusal's number. The faults ask them in order.
 ghost use mathlib.Core.Path.{_≡_};
-ghost use mathlib.Core.Bool.{false, _&&_, Bool·beq};
+ghost use mathlib.Core.Bool.{false, not, cond, _&&_, Bool·beq};
 ghost use lib.Dec.{eqb, ltb, leb};
 ghost use lib.ListN.{getD};
-ghost use Rattle.model.specs.Below.{any};
+ghost use Prim.Native.Nat.{_≤_};
+ghost use Rattle.model.specs.Below.{any, lowest};
 
 // 5: a DEVICE after a TASK.
 pub(crate) fn after_a_task(tasks: usize) -> bool
@@ -87,4 +88,34 @@ pub(crate) fn still_held(held: &[bool; model::MAX_DEVICES]) -> bool
         i += 1;
     }
     false
+}
+
+// 24: the lowest of so many devices that isn't claimed, where claims are asked for; else their number.
+pub(crate) fn unclaimed_device(
+    asked: bool,
+    devices: usize,
+    claimed: &[bool; model::MAX_DEVICES],
+) -> usize
+    requires { ⌜ devices ≤ 16 ⌝ }
+    ensures { λ r. ⌜ r ≡ cond asked (lowest devices (λ d. not (getD (now (claimed .entry)) d false))) devices ⌝ }
+{
+    if !asked {
+        return devices;
+    }
+    first_unclaimed(devices, claimed)
+}
+
+// The lowest of so many devices that isn't claimed, or their number if each is.
+fn first_unclaimed(devices: usize, claimed: &[bool; model::MAX_DEVICES]) -> usize
+    requires { ⌜ devices ≤ 16 ⌝ }
+    ensures { λ r. ⌜ r ≡ lowest devices (λ d. not (getD (now (claimed .entry)) d false)) ⌝ }
+{
+    let mut d = 0;
+    while d < devices {
+        if !claimed[d] {
+            return d;
+        }
+        d += 1;
+    }
+    d
 }

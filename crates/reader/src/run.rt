@@ -42,19 +42,20 @@ fn read_devices(words: &[u32], capacities: &mut [u8; model::MAX_DEVICES]) -> usi
     i
 }
 
-// CLAIMs and RELEASEs of the task just opened, from an index up to a word that is neither or has a fault. They are noted in `held`; the answer is the index
-// after them.
+// CLAIMs and RELEASEs of the task just opened, from an index up to a word that is neither or has a fault. They are noted in `held` and `claimed`; the answer is
+// the index after them.
 fn read_actions(
     words: &[u32],
     from: usize,
     devices: usize,
     tasks: usize,
     held: &mut [bool; model::MAX_DEVICES],
+    claimed: &mut [bool; model::MAX_DEVICES],
 ) -> usize
-    requires { ⌜ ((s : Scan) × Opened (now words) s devices tasks (now held) from) ⌝ }
+    requires { ⌜ ((s : Scan) × Opened (now words) s devices tasks (now held) (now claimed) from) ⌝ }
     ensures { λ r. ⌜ (from ≤ r) × (r - from ≤ 255) × NoAction (now (words .entry)) devices tasks (r - from) (now (held .exit)) r
-        × ((s : Scan) → Opened (now (words .entry)) s devices tasks (now (held .entry)) from
-        → Reached (now (words .entry)) (counted s (r - from) (now (held .exit))) r) ⌝ }
+        × ((s : Scan) → Opened (now (words .entry)) s devices tasks (now (held .entry)) (now (claimed .entry)) from
+        → Reached (now (words .entry)) (counted s (r - from) (now (held .exit)) (now (claimed .exit))) r) ⌝ }
 {
     let mut i = from;
     while i < words.len() {
@@ -69,13 +70,15 @@ fn read_actions(
             return i;
         }
         held[device as usize] = claim;
+        // What a RELEASE without a fault names was claimed before.
+        claimed[device as usize] = true;
         i += 1;
     }
     i
 }
 
-// The tasks from an index on, each with its actions, up to a word that is none of theirs or has a fault. Their action counts, where their actions start and what
-// the last one holds are noted in arrays of zeros.
+// The tasks from an index on, each with its actions, up to a word that is none of theirs or has a fault. Their action counts, where their actions start, what
+// the last one holds and what any of them claims are noted in arrays of zeros.
 fn read_tasks(
     words: &[u32],
     from: usize,
@@ -83,13 +86,14 @@ fn read_tasks(
     lengths: &mut [u8; model::MAX_TASKS],
     starts: &mut [usize; model::MAX_TASKS],
     held: &mut [bool; model::MAX_DEVICES],
+    claimed: &mut [bool; model::MAX_DEVICES],
 ) -> Tasks
-    requires { ⌜ ((capacities : List ℕ) × Reached (now words) (scanned devices capacities 0 (now lengths) (now starts) (now held)) from) ⌝ }
+    requires { ⌜ ((capacities : List ℕ) × Reached (now words) (scanned devices capacities 0 (now lengths) (now starts) (now held) (now claimed)) from) ⌝ }
     ensures { λ r. ⌜ (r .count ≡ 0 → r .index ≡ from) × NoTask (now (words .entry)) (r .count) (now (held .exit)) (r .index)
         × NoAction (now (words .entry)) devices (r .count) (at (now (lengths .exit)) (r .count - 1)) (now (held .exit)) (r .index)
         × ((capacities : List ℕ)
-        → Reached (now (words .entry)) (scanned devices capacities 0 (now (lengths .entry)) (now (starts .entry)) (now (held .entry))) from
-        → Reached (now (words .entry)) (scanned devices capacities (r .count) (now (lengths .exit)) (now (starts .exit)) (now (held .exit))) (r .index)) ⌝ }
+        → Reached (now (words .entry)) (scanned devices capacities 0 (now (lengths .entry)) (now (starts .entry)) (now (held .entry)) (now (claimed .entry))) from
+        → Reached (now (words .entry)) (scanned devices capacities (r .count) (now (lengths .exit)) (now (starts .exit)) (now (held .exit)) (now (claimed .exit))) (r .index)) ⌝ }
 {
     let mut tasks = 0;
     let mut i = from;
@@ -103,7 +107,7 @@ fn read_tasks(
         }
         let first = i + 1;
         starts[tasks] = first;
-        i = read_actions(words, first, devices, tasks + 1, held);
+        i = read_actions(words, first, devices, tasks + 1, held, claimed);
         lengths[tasks] = (i - first) as u8;
         tasks += 1;
     }
@@ -122,6 +126,7 @@ pub(crate) fn read_runs(words: &[u32]) -> Run
     let mut lengths = [0u8; model::MAX_TASKS];
     let mut starts = [0usize; model::MAX_TASKS];
     let mut held = [false; model::MAX_DEVICES];
+    let mut claimed = [false; model::MAX_DEVICES];
     let devices = read_devices(words, &mut capacities);
     let tasks = read_tasks(
         words,
@@ -130,6 +135,7 @@ pub(crate) fn read_runs(words: &[u32]) -> Run
         &mut lengths,
         &mut starts,
         &mut held,
+        &mut claimed,
     );
     let scan = Scan {
         devices: devices,
@@ -138,6 +144,7 @@ pub(crate) fn read_runs(words: &[u32]) -> Run
         lengths: lengths,
         starts: starts,
         held: held,
+        claimed: claimed,
     };
     Run {
         index: tasks.index,

@@ -3,7 +3,8 @@ ghost use mathlib.Core.Path.{_≡_};
 ghost use Rattle.model.specs.Read.{nothingRead};
 ghost use Rattle.reader.specs.Follow.{scanOf};
 
-// The devices and tasks of the words so far; entries of the arrays past the counts are 0. `held` says what the last task holds.
+// The devices and tasks of the words so far; entries of the arrays past the counts are 0. `held` says what the last task holds, `claimed` which devices some
+// task has claimed.
 pub(crate) struct Scan {
     pub(crate) devices: usize,
     pub(crate) capacities: [u8; model::MAX_DEVICES],
@@ -11,6 +12,7 @@ pub(crate) struct Scan {
     pub(crate) lengths: [u8; model::MAX_TASKS],
     pub(crate) starts: [usize; model::MAX_TASKS],
     pub(crate) held: [bool; model::MAX_DEVICES],
+    pub(crate) claimed: [bool; model::MAX_DEVICES],
 }
 
 // Before the first word.
@@ -24,5 +26,6 @@ pub(crate) fn nothing() -> Scan
         lengths: [0; model::MAX_TASKS],
         starts: [0; model::MAX_TASKS],
         held: [false; model::MAX_DEVICES],
+        claimed: [false; model::MAX_DEVICES],
     }
 }

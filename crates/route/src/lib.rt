@@ -153,7 +153,7 @@ fn route_on(map: &[u8], shape: Shape, rec: Record, slice: &mut [u8]) -> RouteAns
 pub fn route(words: &[u32], map: &[u8], rec: Record, slice: &mut [u8]) -> RouteAnswer
     ensures { λ r. ⌜ routedOf r (now (slice .exit)) ≡ model.route (now (words .entry)) (now (map .entry)) (recordOf rec) (now (slice .entry)) ⌝ }
 {
-    let reading = reader::read(words);
+    let reading = reader::read(words, reader::PRESENT);
     let verdict = reading.verdict;
     let shape = reading.shape;
     match verdict {

@@ -23,7 +23,7 @@ impl Analysed {
     ///
     /// # Errors
     ///
-    /// Refusals 1 to 12: give them to the set's author.
+    /// Refusals 1 to 12 and 24: give them to the set's author. [`cleaned`](crate::cleaned) mends 24.
     ///
     /// # Panics
     ///

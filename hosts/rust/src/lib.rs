@@ -24,7 +24,8 @@
 //!
 //! Only an analysis makes an [`Analysed`], and a [`Service`] owns one together with its record, so no bid is ever asked of another map, set or
 //! record. Both need a heap. The calls over slices that the caller lends are in [`plain`], which says what they trust; [`Set`], [`State`] and
-//! [`Plan`] read words for either. [`Plan::locate`] questions a plan that was stored, without its set.
+//! [`Plan`] read words for either. [`Plan::locate`] questions a plan that was stored, without its set. [`cleaned`] and [`Set::clean`] mend a set that was stored
+//! with devices which no task claims, and is now refused.
 //!
 //! The library has no state of its own, so every call may be made from any thread. What must not be shared is what Rust doesn't let one share:
 //! a bid takes `&mut self`. An analysis needs some 300 KiB of stack.
@@ -34,12 +35,12 @@
 //!
 //! # Features
 //!
-//! `std`, which is on by default, adds `std::error::Error` for [`Refused`] to `alloc`. `alloc` has [`Analysed`], [`Service`] and [`words_of`].
+//! `std`, which is on by default, adds `std::error::Error` for [`Refused`] to `alloc`. `alloc` has [`Analysed`], [`Service`], [`words_of`] and [`cleaned`].
 //! Without either the crate needs `core` alone.
 
 #![no_std]
 #![deny(missing_docs)]
-// Without a heap these pages speak of Analysed and Service all the same, and have nothing to link to.
+// Without a heap these pages speak of Analysed, Service and the like all the same, and have nothing to link to.
 #![cfg_attr(not(feature = "alloc"), allow(rustdoc::broken_intra_doc_links))]
 
 // The kin of Linux: neither x32, which has short pointers, nor Cygwin and Apple, which have another convention and other archives.
@@ -58,6 +59,7 @@ pub mod sys;
 #[cfg(feature = "alloc")]
 mod analysed;
 mod answers;
+mod cleaning;
 pub mod plain;
 mod plan;
 mod record;
@@ -71,6 +73,9 @@ mod words;
 #[cfg(feature = "alloc")]
 pub use analysed::Analysed;
 pub use answers::{BidAnswer, Location, NoSuchRefusal, Refused};
+#[cfg(feature = "alloc")]
+pub use cleaning::cleaned;
+pub use cleaning::is_claimed;
 pub use plan::{BoxKind, Plan, PlanBox};
 pub use record::{Positions, Record};
 #[cfg(feature = "alloc")]
@@ -135,11 +140,15 @@ pub enum Refusal {
     BadTaskCount = sys::BAD_TASK_COUNT,
     /// The words aren't a plan for so many tasks; the place is the index of the first word that no plan has there, or the number of words if END is missing.
     OutsideLayout = sys::OUTSIDE_LAYOUT,
+    /// No task claims the device whose number is the place, the lowest such; looked at before [`GridTooLarge`](Refusal::GridTooLarge). [`plain::clean`] mends it.
+    UnclaimedDevice = sys::UNCLAIMED_DEVICE,
+    /// The slice is shorter than the cleaned set, whose length is the place.
+    CleanTooShort = sys::CLEAN_TOO_SHORT,
 }
 
 impl Refusal {
     /// All refusals by rising number, from 1.
-    pub const ALL: [Refusal; 23] = [
+    pub const ALL: [Refusal; 25] = [
         Refusal::NoWords,
         Refusal::TooManyWords,
         Refusal::WordAfterEnd,
@@ -163,6 +172,8 @@ impl Refusal {
         Refusal::RouteTooShort,
         Refusal::BadTaskCount,
         Refusal::OutsideLayout,
+        Refusal::UnclaimedDevice,
+        Refusal::CleanTooShort,
     ];
 
     /// The refusal's number in `docs/SCOPE.md`, "Refusals"; `TryFrom<u8>` goes the other way.
@@ -198,6 +209,10 @@ impl Refusal {
             Refusal::RouteTooShort => "the route has more steps than its slice has bytes",
             Refusal::BadTaskCount => "a plan is for 1 to 8 tasks",
             Refusal::OutsideLayout => "no plan for so many tasks goes on like this: it was cut or damaged, or is for another number of tasks",
+            Refusal::UnclaimedDevice => {
+                "no task claims this device: mend the claim that should name it, or let 'clean < OLDFILE > NEWFILE' take such devices out"
+            }
+            Refusal::CleanTooShort => "the cleaned set has more words than its slice",
         }
     }
 }

@@ -9,7 +9,7 @@
 //! - **the record is as the last call left it**, and the only one for the set's devices.
 //!
 //! [`Analysed`](crate::Analysed) and [`Service`](crate::Service) see to all three; they are this module's calls with the slices in one hand.
-//! [`locate`] takes none of these, and trusts nothing.
+//! [`locate`] and [`clean`] take none of these, and trust nothing.
 //!
 //! ```
 //! use arbiter::{plain, BidAnswer, Location, Record};
@@ -42,7 +42,7 @@ pub const NOT_ANALYSED: u8 = 0xFF;
 ///
 /// # Errors
 ///
-/// Refusals 1 to 12, which are the set's.
+/// Refusals 1 to 12 and 24, which are the set's.
 ///
 /// # Panics
 ///
@@ -65,7 +65,7 @@ pub fn read(set: &[u32]) -> Result<usize, Refused> {
 ///
 /// # Errors
 ///
-/// Refusals 1 to 14. 1 to 13 leave both slices untouched; 14 leaves the finished map, and zeros in the whole plan slice.
+/// Refusals 1 to 14 and 24. 14 leaves the finished map, and zeros in the whole plan slice; the others leave both slices untouched.
 ///
 /// # Panics
 ///
@@ -84,7 +84,7 @@ pub fn analyse(set: &[u32], map: &mut [u8], plan: &mut [u32]) -> Result<usize, R
 ///
 /// # Errors
 ///
-/// Refusals 1 to 13, 16, 17 and 18.
+/// Refusals 1 to 13, 16, 17, 18 and 24.
 ///
 /// # Panics
 ///
@@ -106,7 +106,7 @@ pub fn bid(record: &mut Record, set: &[u32], map: &[u8], task: usize) -> Result<
 ///
 /// # Errors
 ///
-/// Refusals 1 to 12, 16 and 19, which change nothing.
+/// Refusals 1 to 12, 16, 19 and 24, which change nothing.
 ///
 /// # Panics
 ///
@@ -127,7 +127,7 @@ pub fn again(record: &mut Record, set: &[u32]) -> Result<(), Refused> {
 ///
 /// # Errors
 ///
-/// Refusals 1 to 13, 16, 18, 20 and 21, which fill the whole slice with [`sys::NO_STEP`].
+/// Refusals 1 to 13, 16, 18, 20, 21 and 24, which fill the whole slice with [`sys::NO_STEP`].
 ///
 /// # Panics
 ///
@@ -163,5 +163,41 @@ pub fn locate(positions: Positions, plan: &[u32], tasks: usize) -> Result<Locati
         sys::IN_UNSAFE_BOX => Ok(Location::Unsafe { index: value_of(answer) }),
         sys::IN_NO_BOX => Ok(Location::Neither),
         _ => Err(refused("arbiter_locate", answer)),
+    }
+}
+
+/// Writes the set again without the devices that no task claims, the others numbered anew from 0 in their old order, and answers the number of words. It is for
+/// sets that were stored before such devices were refused, and takes them as they were taken then.
+///
+/// A slice as long as the set is always long enough. The words beyond the cleaned set keep what they had. What is written is accepted by [`read`], with as many
+/// states, and its map is the old set's byte for byte; a set that has no such device comes back word for word.
+///
+/// ```
+/// use arbiter::{plain, Refusal, Refused};
+///
+/// // Nobody claims device 0, so device 1 becomes device 0.
+/// let old = [0x10000008, 0x10000002, 0x20000000, 0x30000001, 0x40000001, 0x50000005];
+/// assert_eq!(plain::read(&old), Err(Refused { refusal: Refusal::UnclaimedDevice, place: 0 }));
+///
+/// let mut clean = [0; 6];
+/// let words = plain::clean(&old, &mut clean)?;
+/// assert_eq!(clean[..words], [0x10000002, 0x20000000, 0x30000000, 0x40000000, 0x50000004]);
+/// # Ok::<(), Refused>(())
+/// ```
+///
+/// # Errors
+///
+/// Refusals 1 to 12, by the rules that had no 24, and 25. They leave the slice untouched.
+///
+/// # Panics
+///
+/// If the linked library isn't the one that belongs to this crate.
+pub fn clean(set: &[u32], clean: &mut [u32]) -> Result<usize, Refused> {
+    version::check();
+    // SAFETY: as in `analyse`.
+    let answer = unsafe { sys::arbiter_clean(set.as_ptr(), set.len(), clean.as_mut_ptr(), clean.len()) };
+    match answer.kind {
+        sys::CLEANED => Ok(value_of(answer)),
+        _ => Err(refused("arbiter_clean", answer)),
     }
 }

@@ -59,13 +59,28 @@ impl<'a> Set<'a> {
     ///
     /// # Errors
     ///
-    /// Refusals 1 to 12.
+    /// Refusals 1 to 12 and 24.
     ///
     /// # Panics
     ///
     /// If the linked library isn't the one that belongs to this crate.
     pub fn read(words: &'a [u32]) -> Result<Set<'a>, Refused> {
         Ok(Set { words, states: plain::read(words)? })
+    }
+
+    /// Takes the devices that no task claims out of a set that was stored: writes its words again without them, as [`plain::clean`] does, and reads what is
+    /// written. A slice as long as the words is always long enough.
+    ///
+    /// # Errors
+    ///
+    /// Refusals 1 to 12, by the rules that had no 24, and 25. They leave the slice untouched.
+    ///
+    /// # Panics
+    ///
+    /// If the linked library isn't the one that belongs to this crate.
+    pub fn clean(words: &[u32], slice: &'a mut [u32]) -> Result<Set<'a>, Refused> {
+        let length = plain::clean(words, slice)?;
+        Set::read(&slice[..length])
     }
 
     /// Its words.

@@ -50,10 +50,11 @@ extern "C" {
     pub fn arbiter_again(record: *mut Record, set: *const u32, set_len: usize) -> Answer;
     pub fn arbiter_route(record: Record, set: *const u32, set_len: usize, map: *const u8, map_len: usize, route: *mut u8, route_len: usize) -> Answer;
     pub fn arbiter_locate(state: State, plan: *const u32, plan_len: usize, tasks: usize) -> Answer;
+    pub fn arbiter_clean(set: *const u32, set_len: usize, clean: *mut u32, clean_len: usize) -> Answer;
 }
 
 // The version that this interface is of, and the library must be: major times 10,000, minor times 100, patch.
-pub const VERSION: u32 = 20000;
+pub const VERSION: u32 = 30000;
 
 // The kinds of an answer. A zeroed answer is a refusal.
 pub const REFUSED: u32 = 0; // value: the refusal's place
@@ -68,6 +69,7 @@ pub const RESTARTED: u32 = 8;
 pub const IN_FORBIDDEN_BOX: u32 = 9; // value: the index of the box's first word
 pub const IN_UNSAFE_BOX: u32 = 10; // likewise
 pub const IN_NO_BOX: u32 = 11;
+pub const CLEANED: u32 = 12; // value: the number of words of the cleaned set
 
 // The limits of a set.
 pub const MAX_WORDS: usize = 4096;
@@ -103,7 +105,7 @@ pub const DEAD: u8 = 3;
 // What a refused route leaves in every byte of its slice.
 pub const NO_STEP: u8 = 255;
 
-// The refusals of a set.
+// The refusals of a set. UNCLAIMED_DEVICE comes before GRID_TOO_LARGE.
 pub const NO_WORDS: u8 = 1;
 pub const TOO_MANY_WORDS: u8 = 2;
 pub const WORD_AFTER_END: u8 = 3;
@@ -116,6 +118,7 @@ pub const RELEASE_OF_NOT_HELD: u8 = 9;
 pub const STILL_HELD: u8 = 10;
 pub const NO_END: u8 = 11;
 pub const GRID_TOO_LARGE: u8 = 12;
+pub const UNCLAIMED_DEVICE: u8 = 24;
 
 // The refusals of lent slices, input bytes, records and calls.
 pub const MAP_TOO_SHORT: u8 = 13;
@@ -127,6 +130,7 @@ pub const BAD_MAP_BYTE: u8 = 18;
 pub const NOT_AT_END: u8 = 19;
 pub const NO_ROUTE: u8 = 20;
 pub const ROUTE_TOO_SHORT: u8 = 21;
+pub const CLEAN_TOO_SHORT: u8 = 25;
 
 // The refusals of a stored plan.
 pub const BAD_TASK_COUNT: u8 = 22;

@@ -105,7 +105,11 @@ fn rounds_bring_every_task_home_and_again_keeps_the_grants() {
 fn faulty_sets_are_refused_by_every_call_and_change_nothing() {
     // Two tasks of 254 actions pass; a third of 2 makes the grid too large.
     let third_of_two = users_of_one_device(2, &[127, 127, 1]);
-    let cases: [(&[u32], Refusal, usize); 13] = [
+    // With a device that no task claims, that is told before the grid, and after a missing END.
+    let mut unclaimed_besides = third_of_two.clone();
+    unclaimed_besides.insert(1, 0x10000001);
+    *unclaimed_besides.last_mut().unwrap() += 1;
+    let cases: [(&[u32], Refusal, usize); 17] = [
         (&[], Refusal::NoWords, 0),
         (&[0; 4097], Refusal::TooManyWords, 4096),
         (&[0x20000000, 0x50000001, 0x50000002], Refusal::WordAfterEnd, 2),
@@ -119,6 +123,10 @@ fn faulty_sets_are_refused_by_every_call_and_change_nothing() {
         (&[0x20000000], Refusal::NoEnd, 1),
         (&third_of_two, Refusal::GridTooLarge, third_of_two.len() - 1),
         (&[0x20000000; 9], Refusal::TooMany, 8),
+        (&[0x10000008, 0x20000000, 0x50000002], Refusal::UnclaimedDevice, 0),
+        (&[0x10000001, 0x10000001, 0x10000001, 0x20000000, 0x30000000, 0x40000000, 0x50000006], Refusal::UnclaimedDevice, 1),
+        (&unclaimed_besides, Refusal::UnclaimedDevice, 1),
+        (&[0x10000001, 0x20000000], Refusal::NoEnd, 2),
     ];
     for (set, refusal, place) in cases {
         let (mut map, mut plan, mut steps) = ([NOT_ANALYSED; 3], [0xAAAA_AAAA; 3], [0xAA; 3]);

@@ -19,6 +19,7 @@ answer arbiter_bid(void) { return any(); }
 answer arbiter_again(void) { return any(); }
 answer arbiter_route(void) { return any(); }
 answer arbiter_locate(void) { return any(); }
+answer arbiter_clean(void) { return any(); }
 record arbiter_fresh(void) { return (record){ { 0 }, 0 }; }
 "#;
 
@@ -35,13 +36,14 @@ fn main() {
         "again" => plain::again(&mut record, &[]),
         "route" => plain::route(&record, &[], &[], &mut []).map(|_| ()),
         "locate" => plain::locate([0; 8], &[], 1).map(|_| ()),
+        "clean" => plain::clean(&[], &mut []).map(|_| ()),
         _ => Ok(record = Record::fresh()),
     };
     println!("{answer:?} {record:?}");
 }
 "#;
 
-const CALLS: [&str; 7] = ["read", "analyse", "bid", "again", "route", "locate", "fresh"];
+const CALLS: [&str; 8] = ["read", "analyse", "bid", "again", "route", "locate", "clean", "fresh"];
 
 /// An empty folder of this name for what a test builds.
 fn folder(name: &str) -> PathBuf {
@@ -89,7 +91,7 @@ fn no_call_reaches_another_library() {
         assert!(status == PANICKED && said.contains(of_version), "{name}: {said}");
     }
     // A fresh record is no answer.
-    for name in &CALLS[..6] {
+    for name in &CALLS[..7] {
         for [kind, refusal] in [[99, 0], [99, 1], [0, 0], [0, 99], [0, 257]] {
             let (status, said) = call(&caller, name, [VERSION, kind, refusal]);
             assert!(status == PANICKED && said.contains(&format!("arbiter_{name} gave an answer that it hasn't got")), "{name}: {said}");

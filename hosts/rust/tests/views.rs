@@ -194,11 +194,11 @@ fn records_are_stored_positions_first_and_lowest_byte_first() {
 #[test]
 fn refusals_have_numbers_both_ways() {
     let numbers: Vec<u8> = Refusal::ALL.iter().map(|refusal| refusal.number()).collect();
-    assert_eq!(numbers, (1..=23).collect::<Vec<u8>>());
+    assert_eq!(numbers, (1..=25).collect::<Vec<u8>>());
     for refusal in Refusal::ALL {
         assert_eq!(Refusal::try_from(refusal.number()), Ok(refusal));
     }
-    for number in [0, 24, 255] {
+    for number in [0, 26, 255] {
         assert_eq!(Refusal::try_from(number), Err(NoSuchRefusal(number)));
     }
 }
@@ -207,7 +207,7 @@ fn refusals_have_numbers_both_ways() {
 fn everything_prints_for_a_log() {
     let refused = Refused { refusal: Refusal::ClaimOfHeld, place: 3 };
     assert_eq!(refused.to_string(), "refused 8 at 3: the task claims a device that it holds already");
-    assert_eq!(NoSuchRefusal(24).to_string(), "no refusal has the number 24");
+    assert_eq!(NoSuchRefusal(26).to_string(), "no refusal has the number 26");
     let answers = [BidAnswer::Granted, BidAnswer::Finished, BidAnswer::Busy { device: 1 }, BidAnswer::Held { rank: 6 }];
     assert_eq!(answers.map(|answer| answer.to_string()), ["granted", "finished", "waits for device 1", "held back from unsafe state 6"]);
     assert_eq!(answers.map(BidAnswer::text), ["granted", "finished", "busy", "held"]);
@@ -220,6 +220,6 @@ fn everything_prints_for_a_log() {
 #[cfg(feature = "std")]
 #[test]
 fn what_is_refused_is_an_error() {
-    let errors: [Box<dyn std::error::Error>; 2] = [Box::new(Set::read(&[]).unwrap_err()), Box::new(NoSuchRefusal(24))];
-    assert_eq!(errors.map(|error| error.to_string()), ["refused 1 at 0: the set is empty", "no refusal has the number 24"]);
+    let errors: [Box<dyn std::error::Error>; 2] = [Box::new(Set::read(&[]).unwrap_err()), Box::new(NoSuchRefusal(26))];
+    assert_eq!(errors.map(|error| error.to_string()), ["refused 1 at 0: the set is empty", "no refusal has the number 26"]);
 }

@@ -28,6 +28,20 @@ pub fn words_of(capacities: &[usize], tasks: &[Vec<u32>]) -> Vec<u32> {
     words
 }
 
+/// The words of a set in which each device is claimed: the others are left out, and their numbers closed up.
+fn set_of(capacities: &[usize], tasks: &[Vec<u32>]) -> Vec<u32> {
+    let mut number = [0; 16];
+    let mut kept = Vec::new();
+    for (device, &capacity) in capacities.iter().enumerate() {
+        number[device] = kept.len() as u32;
+        if tasks.iter().any(|task| task.contains(&claim(device))) {
+            kept.push(capacity);
+        }
+    }
+    let renamed = |task: &Vec<u32>| task.iter().map(|word| word & 0xF000_0000 | number[(word & 15) as usize]).collect();
+    words_of(&kept, &tasks.iter().map(renamed).collect::<Vec<Vec<u32>>>())
+}
+
 pub fn example_a() -> Vec<u32> {
     words_of(&[1, 1], &[vec![claim(0), claim(1), release(1), release(0)], vec![claim(1), claim(0), release(0), release(1)]])
 }
@@ -35,10 +49,12 @@ pub fn example_a() -> Vec<u32> {
 /// How many kinds of refused lists `faulty` is asked for: the refusals 1 to 12.
 const FAULTS: u64 = 12;
 
+const MOST_DEVICES: usize = 16;
+
 /// The list of words of one input. Kinds take turns, so that a short run has all of them.
 pub fn words(random: &mut Random, input: u64) -> Vec<u32> {
-    let round = input / 16;
-    match input % 16 {
+    let round = input / 18;
+    match input % 18 {
         0..=3 => sized(random, &[12, 50, 200, 200, 600, 2000]),
         4 => few_devices(random),
         5 => crossing(random),
@@ -54,7 +70,8 @@ pub fn words(random: &mut Random, input: u64) -> Vec<u32> {
                 sized(random, &[9, 30, 100, 300])
             }
         }
-        _ => limits(random, round),
+        15 => limits(random, round),
+        _ => unclaimed(random, round),
     }
 }
 
@@ -104,7 +121,7 @@ fn capacities(random: &mut Random, devices: usize) -> Vec<usize> {
     (0..devices).map(|_| if tight { random.pick(&[1, 1, 1, 1, 2]) } else { random.pick(&[1, 1, 2, 2, 3, 4, 5, 6, 7, 8]) }).collect()
 }
 
-/// Any set with these action counts: unused devices, idle tasks and several holds of one device come of themselves.
+/// Any set with these action counts: idle tasks and several holds of one device come of themselves.
 fn any_set(random: &mut Random, lengths: &[usize]) -> Vec<u32> {
     let mut devices = random.pick(&[0, 1, 1, 2, 2, 3, 3, 4, 5, 8, 16]);
     if lengths.iter().any(|&length| length > 0) {
@@ -113,7 +130,7 @@ fn any_set(random: &mut Random, lengths: &[usize]) -> Vec<u32> {
     let capacities = capacities(random, devices);
     let all: Vec<usize> = (0..devices).collect();
     let tasks: Vec<Vec<u32>> = lengths.iter().map(|&length| actions(random, length, &all)).collect();
-    words_of(&capacities, &tasks)
+    set_of(&capacities, &tasks)
 }
 
 fn sized(random: &mut Random, grids: &[usize]) -> Vec<u32> {
@@ -131,7 +148,7 @@ fn few_devices(random: &mut Random) -> Vec<u32> {
     let capacities: Vec<usize> = (0..devices).map(|_| random.between(1, tasks)).collect();
     let all: Vec<usize> = (0..devices).collect();
     let tasks: Vec<Vec<u32>> = lengths.iter().map(|&length| actions(random, length, &all)).collect();
-    words_of(&capacities, &tasks)
+    set_of(&capacities, &tasks)
 }
 
 /// Biased to deadlock: each task claims some devices in an order of its own before it releases any of them.
@@ -160,7 +177,7 @@ fn crossing(random: &mut Random) -> Vec<u32> {
         grid *= list.len() + 1;
         lists.push(list);
     }
-    words_of(&capacities, &lists)
+    set_of(&capacities, &lists)
 }
 
 /// The tasks of two sets of three devices. The first has a dead state that is reached and one that isn't, the second one that isn't and no other.
@@ -212,7 +229,7 @@ fn pocket(random: &mut Random) -> Vec<u32> {
     if random.one_in(8) {
         capacities[random.below(DEVICES)] = 2;
     }
-    words_of(&capacities, &tasks)
+    set_of(&capacities, &tasks)
 }
 
 /// Known families at random sizes; the largest grids there are if `whole`.
@@ -280,7 +297,20 @@ fn family(random: &mut Random, whole: bool) -> Vec<u32> {
             tasks.insert(random.below(tasks.len() + 1), Vec::new());
         }
     }
-    words_of(&capacities, &tasks)
+    set_of(&capacities, &tasks)
+}
+
+/// Up to 15 devices, half of the time as many, and every one claimed once: one more device has any number from 0 to 15, and is the only one without a claim.
+fn many_devices(random: &mut Random) -> Vec<u32> {
+    let devices = if random.one_in(2) { 15 } else { random.between(1, 15) };
+    let mut order: Vec<usize> = (0..devices).collect();
+    random.shuffle(&mut order);
+    let mut tasks = vec![Vec::new(); random.between(1, 3)];
+    for device in order {
+        let task = random.below(tasks.len());
+        tasks[task].extend([claim(device), release(device)]);
+    }
+    set_of(&capacities(random, devices), &tasks)
 }
 
 /// Grids next to the largest.
@@ -304,21 +334,29 @@ fn large(random: &mut Random) -> Vec<u32> {
 
 /// Next to the limits on words, devices, tasks, actions and the grid; some of them over.
 fn limits(random: &mut Random, round: u64) -> Vec<u32> {
-    let all: Vec<usize> = (0..16).collect();
+    let all: Vec<usize> = (0..MOST_DEVICES).collect();
     match round % 12 {
         0 => {
-            // All 16 devices and all eight tasks: 6,561 states.
-            let lengths = if random.one_in(3) { [2; 8] } else { [2, 0, 2, 4, 0, 2, 2, 0] };
-            let tasks: Vec<Vec<u32>> = lengths.iter().map(|&length| actions(random, length, &all)).collect();
-            let capacities: Vec<usize> = (0..16).map(|_| random.pick(&[1, 8])).collect();
-            words_of(&capacities, &tasks)
+            // All 16 devices, of which two tasks claim half each, and all eight tasks: up to 7,225 states.
+            let mut order = all.clone();
+            random.shuffle(&mut order);
+            let (some, others) = order.split_at(MOST_DEVICES / 2);
+            let mut tasks: Vec<Vec<u32>> =
+                [some, others].iter().map(|half| half.iter().flat_map(|&device| [claim(device), release(device)]).collect()).collect();
+            for most in [0, 0, 0, 0, 2, 2] {
+                let length = 2 * random.between(0, most);
+                tasks.push(actions(random, length, &all));
+            }
+            random.shuffle(&mut tasks);
+            let capacities: Vec<usize> = (0..MOST_DEVICES).map(|_| random.pick(&[1, 8])).collect();
+            set_of(&capacities, &tasks)
         }
         1 => {
             // One task of 254 actions among idle ones.
             let devices = random.between(1, 16);
             let mut tasks = vec![Vec::new(); random.between(0, 7)];
             tasks.insert(random.below(tasks.len() + 1), actions(random, 254, &all[..devices]));
-            words_of(&vec![1; devices], &tasks)
+            set_of(&vec![1; devices], &tasks)
         }
         2 => {
             // 65,549 states, the smallest grid that is refused.
@@ -330,7 +368,7 @@ fn limits(random: &mut Random, round: u64) -> Vec<u32> {
             // The longest list without a faulty word: 2,057 words, or nearly. Its grid takes 64 bits.
             let length = 254 - 2 * random.below(3);
             let tasks: Vec<Vec<u32>> = (0..8).map(|_| actions(random, length, &all)).collect();
-            words_of(&[8; 16], &tasks)
+            set_of(&[8; MOST_DEVICES], &tasks)
         }
         4 => {
             // Grids that are small when cut to 32 bits.
@@ -378,7 +416,7 @@ fn limits(random: &mut Random, round: u64) -> Vec<u32> {
             }
             random.shuffle(&mut lengths);
             let tasks: Vec<Vec<u32>> = lengths.iter().map(|&length| actions(random, length, &all)).collect();
-            words_of(&capacities(random, 16), &tasks)
+            set_of(&capacities(random, MOST_DEVICES), &tasks)
         }
         10 => {
             // No device at all.
@@ -392,6 +430,70 @@ fn limits(random: &mut Random, round: u64) -> Vec<u32> {
             words_of(&[capacity], &lists)
         }
     }
+}
+
+// --- Devices that no task claims ---
+
+/// Any list, good or bad, with such devices put in.
+fn unclaimed(random: &mut Random, round: u64) -> Vec<u32> {
+    let words = match round % 9 {
+        0 => crossing(random),
+        1 => few_devices(random),
+        2 => pocket(random),
+        3 => family(random, false),
+        4 => limits(random, round / 9),
+        5 => faulty(random, 1 + (round / 9 % FAULTS) as usize),
+        6 => damaged(random),
+        7 => many_devices(random),
+        _ => sized(random, &[12, 50, 200, 600]),
+    };
+    match unclaimed_places(random, &words) {
+        None => words,
+        Some(places) => with_unclaimed(random, &words, &places),
+    }
+}
+
+/// Numbers, rising, for some devices more than the list has: one or several, anywhere among its own. None if it has 16.
+pub fn unclaimed_places(random: &mut Random, words: &[u32]) -> Option<Vec<usize>> {
+    let devices = declared(words);
+    if devices >= MOST_DEVICES {
+        return None;
+    }
+    let more = match random.below(6) {
+        0 => MOST_DEVICES - devices,
+        1 | 2 => random.between(1, MOST_DEVICES - devices),
+        _ => 1,
+    };
+    let mut places: Vec<usize> = (0..devices + more).collect();
+    random.shuffle(&mut places);
+    places.truncate(more);
+    places.sort_unstable();
+    Some(places)
+}
+
+/// The list with devices of these numbers, rising, besides its own, which are numbered on; nothing else in it changes. An END that counts right counts right again.
+pub fn with_unclaimed(random: &mut Random, words: &[u32], places: &[usize]) -> Vec<u32> {
+    let devices = declared(words);
+    let own: Vec<usize> = (0..devices + places.len()).filter(|device| !places.contains(device)).collect();
+    let mut list = words.to_vec();
+    if let Some(last) = list.last_mut().filter(|last| **last == end(words.len() - 1)) {
+        *last = end(words.len() - 1 + places.len());
+    }
+    for word in &mut list[devices..] {
+        let (kind, field) = (*word >> 28, (*word & 0x0FFF_FFFF) as usize);
+        if matches!(kind, 3 | 4) && field < devices {
+            *word = kind << 28 | own[field] as u32;
+        }
+    }
+    for &place in places {
+        list.insert(place, device(random.between(1, 8)));
+    }
+    list
+}
+
+/// How many devices a list begins with.
+fn declared(words: &[u32]) -> usize {
+    words.iter().take_while(|word| **word >> 28 == 1).count()
 }
 
 // --- Bad lists ---

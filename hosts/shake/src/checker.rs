@@ -1,5 +1,6 @@
 //! Makes each call twice, through the library and through the reference, and compares the answers and every byte that was lent.
 
+use crate::cleaning::Cleanings;
 use crate::fenced::Fenced;
 use crate::questions::Asked;
 use crate::random::Random;
@@ -8,7 +9,7 @@ use crate::stored_plan;
 use arbiter::sys;
 use std::fmt::Debug;
 
-pub const CALLS: [&str; 6] = ["read", "analyse", "bid", "again", "route", "locate"];
+pub const CALLS: [&str; 7] = ["read", "analyse", "bid", "again", "route", "locate", "clean"];
 
 #[derive(Clone, Copy)]
 pub enum Call {
@@ -18,13 +19,14 @@ pub enum Call {
     Again,
     Route,
     Locate,
+    Clean,
 }
 
 /// How often each call gave each answer.
 #[derive(Default)]
 pub struct Seen {
-    pub kinds: [[u64; 12]; CALLS.len()],
-    pub refusals: [[u64; 24]; CALLS.len()],
+    pub kinds: [[u64; 13]; CALLS.len()],
+    pub refusals: [[u64; 26]; CALLS.len()],
 }
 
 /// The dead states of a set, if it has any.
@@ -92,6 +94,7 @@ pub struct Checker {
     pub seen: Seen,
     pub sets: Sets,
     pub asked: Asked,
+    pub cleanings: Cleanings,
     /// Bids in service whose next action was a release.
     pub releases: u64,
     /// Said first when something differs.
@@ -111,6 +114,7 @@ fn told(answer: &sys::Answer) -> Answer {
         sys::IN_FORBIDDEN_BOX => Answer::InForbiddenBox(answer.value),
         sys::IN_UNSAFE_BOX => Answer::InUnsafeBox(answer.value),
         sys::IN_NO_BOX => Answer::InNoBox,
+        sys::CLEANED => Answer::Cleaned(answer.value),
         _ => Answer::Refused(crate::reference::Refusal { number: answer.refusal, place: answer.value }),
     }
 }
@@ -131,6 +135,7 @@ pub fn laid_out(answer: Answer) -> sys::Answer {
         Answer::InForbiddenBox(index) => of(sys::IN_FORBIDDEN_BOX, index),
         Answer::InUnsafeBox(index) => of(sys::IN_UNSAFE_BOX, index),
         Answer::InNoBox => of(sys::IN_NO_BOX, 0),
+        Answer::Cleaned(words) => of(sys::CLEANED, words),
     }
 }
 
@@ -164,7 +169,7 @@ struct Made<'a> {
 
 impl Checker {
     pub fn new() -> Checker {
-        Checker { seen: Seen::default(), sets: Sets::default(), asked: Asked::default(), releases: 0, input: String::new() }
+        Checker { seen: Seen::default(), sets: Sets::default(), asked: Asked::default(), cleanings: Cleanings::default(), releases: 0, input: String::new() }
     }
 
     /// Tells the whole case and ends the run.
@@ -331,6 +336,32 @@ impl Checker {
         if !is_so {
             let beside = format!(" {state:?} for {} tasks", question.tasks);
             self.fail(&Made { call: Call::Locate, words: question.plan, beside, map: None }, what());
+        }
+    }
+
+    /// The slice as it is afterwards.
+    pub fn clean(&mut self, random: &mut Random, words: &[u32], worked: &Worked, clean_len: usize) -> Vec<u32> {
+        let made = Made { call: Call::Clean, words, beside: format!(", slice of {clean_len}"), map: None };
+        let set = Fenced::new(random, words.len(), |i| words.get(i).copied().unwrap_or(0x2000_0000));
+        let before = set.clone();
+        let salt = random.next() as u32;
+        let mut clean = Fenced::new(random, clean_len, |i| salt ^ (i as u32).wrapping_mul(0x9E37_79B1));
+        let mut other = clean.clone();
+        let library = unsafe {
+            let (set, clean) = (set.read(), clean.lent());
+            sys::arbiter_clean(set.as_ptr(), set.len(), clean.as_mut_ptr(), clean.len())
+        };
+        let reference = worked.clean(other.lent());
+        self.answers(&made, library, reference);
+        self.alike(&made, "slice for the cleaned set", &clean, &other);
+        self.alike(&made, "set", &set, &before);
+        clean.read().to_vec()
+    }
+
+    /// What must be so of a set and the one that it is cleaned to.
+    pub fn cleaned(&self, words: &[u32], is_so: bool, what: impl Fn() -> String) {
+        if !is_so {
+            self.fail(&Made { call: Call::Clean, words, beside: String::new(), map: None }, what());
         }
     }
 

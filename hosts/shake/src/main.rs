@@ -8,6 +8,7 @@
 
 mod cases;
 mod checker;
+mod cleaning;
 mod fenced;
 mod long_run;
 mod package;
@@ -61,6 +62,7 @@ fn main() {
         print_table(&checker.seen);
         println!("{}", checker.sets);
         println!("{}", checker.asked);
+        println!("{}", checker.cleanings);
         let long = service(seed, (100 * last).min(MOST_BIDS), 0);
         // A record that is next to the wrap from the start.
         let wrapped = service(seed + 1, 1000, 0xFFFF_FFF0);
@@ -68,7 +70,7 @@ fn main() {
             println!("FAIL: the grant number never went from 4,294,967,295 to 0");
             std::process::exit(1);
         }
-        all_seen(&checker);
+        all_seen(&checker, last);
         println!("in service all {} bids that were to release something were granted", checker.releases);
         println!("shake: {last} inputs, seed {seed}, {} calls and {long} bids on one record agree", calls(&checker.seen));
     });
@@ -88,6 +90,7 @@ fn shake(checker: &mut Checker, seed: u64, input: u64) {
     checker.input = format!("to see it again: shake replay {seed} {input}");
     checker.read(random, &words, &worked);
     questions::of_no_set(checker, &mut asking);
+    cleaning::of_list(checker, random, &words, &worked);
     match &worked.set {
         Err(_) => refused(checker, random, &words, &worked),
         Ok(set) => {
@@ -106,6 +109,10 @@ fn shake(checker: &mut Checker, seed: u64, input: u64) {
             let record = cases::record(random, set, &worked.map);
             checker.again(random, &words, &worked, record);
             questions::of_set(checker, &mut asking, &worked, set);
+            if let Some((old, worked)) = cleaning::and_back(checker, random, &words) {
+                checker.read(random, &old, &worked);
+                refused(checker, random, &old, &worked);
+            }
             // Of one set in four, for the time that it takes.
             if random.one_in(4) {
                 checker.package(&words, package::check(random, &words, &worked, set));
@@ -184,7 +191,8 @@ fn calls(seen: &Seen) -> u64 {
     seen.kinds.iter().flatten().sum()
 }
 
-const KINDS: [&str; 12] = ["refused", "accepted", "planned", "routed", "granted", "finished", "busy", "held", "restarted", "forbidden", "unsafe", "neither"];
+const KINDS: [&str; 13] =
+    ["refused", "accepted", "planned", "routed", "granted", "finished", "busy", "held", "restarted", "forbidden", "unsafe", "neither", "cleaned"];
 
 fn print_table(seen: &Seen) {
     let line = |name: &str, counts: [u64; CALLS.len()]| {
@@ -195,43 +203,44 @@ fn print_table(seen: &Seen) {
     for (kind, name) in KINDS.iter().enumerate() {
         line(name, std::array::from_fn(|call| seen.kinds[call][kind]));
     }
-    for number in 1..24 {
+    for number in 1..26 {
         line(&format!("refused {number}"), std::array::from_fn(|call| seen.refusals[call][number]));
     }
 }
 
-/// Every answer that docs/SCOPE.md gives a call, every sort of dead states and every fault of a plan must have come, or the run shows less than it says. 15 is the
-/// printer's alone.
-fn all_seen(checker: &Checker) {
+/// Every answer that docs/SCOPE.md gives a call, every sort of dead states, every fault of a plan and every sort of list to clean must have come, or the run shows less than
+/// it says. 15 is the printer's alone.
+fn all_seen(checker: &Checker, inputs: u64) {
     let seen = &checker.seen;
-    let set: Vec<usize> = (1..=12).collect();
-    // The last column: whether the call is lent a set, and so brings its refusals.
-    let expected: [(&[usize], &[usize], bool); CALLS.len()] = [
-        (&[1], &[], true),
-        (&[2], &[13, 14], true),
-        (&[4, 5, 6, 7], &[13, 16, 17, 18], true),
-        (&[8], &[16, 19], true),
-        (&[3], &[13, 16, 18, 20, 21], true),
-        (&[9, 10, 11], &[22, 23], false),
+    const OF_A_SET: [usize; 13] = [1, 2, 3, 4, 5, 6, 7, 8, 9, 10, 11, 12, 24];
+    // The last column: the refusals of a set, if the call is lent one. By the former rules, which cleaning goes by, there is no 24.
+    let expected: [(&[usize], &[usize], &[usize]); CALLS.len()] = [
+        (&[1], &[], &OF_A_SET),
+        (&[2], &[13, 14], &OF_A_SET),
+        (&[4, 5, 6, 7], &[13, 16, 17, 18], &OF_A_SET),
+        (&[8], &[16, 19], &OF_A_SET),
+        (&[3], &[13, 16, 18, 20, 21], &OF_A_SET),
+        (&[9, 10, 11], &[22, 23], &[]),
+        (&[12], &[25], &OF_A_SET[..12]),
     ];
-    let mut missing: Vec<String> = checker.sets.missing().collect();
+    let mut missing: Vec<String> = checker.sets.missing().chain(checker.cleanings.missing(1 + inputs / 2000)).collect();
     for ((name, _), _) in FAULTS.iter().zip(checker.asked.faults).filter(|(_, count)| *count == 0) {
         missing.push(format!("a plan with the fault {name}"));
     }
-    for (call, (kinds, refusals, lent_a_set)) in expected.iter().enumerate() {
+    for (call, (kinds, refusals, of_the_set)) in expected.iter().enumerate() {
         for &kind in kinds.iter() {
             if seen.kinds[call][kind] == 0 {
                 missing.push(format!("{} {}", CALLS[call], KINDS[kind]));
             }
         }
-        for &number in set.iter().filter(|_| *lent_a_set).chain(refusals.iter()) {
+        for &number in of_the_set.iter().chain(refusals.iter()) {
             if seen.refusals[call][number] == 0 {
                 missing.push(format!("{} refused {}", CALLS[call], number));
             }
         }
     }
     if !missing.is_empty() {
-        println!("FAIL: too few inputs, never seen: {}", missing.join(", "));
+        println!("FAIL: too few inputs, not seen: {}", missing.join(", "));
         std::process::exit(1);
     }
 }

@@ -1,5 +1,5 @@
 //! What the package for Rust makes of an accepted set, held to the reference: the set's parts and states, the plan's boxes, an analysis that finds its own room, and a
-//! short service.
+//! short service; and what it makes of any list that is to be cleaned.
 
 use crate::cases;
 use crate::random::Random;
@@ -27,6 +27,24 @@ pub fn check(random: &mut Random, words: &[u32], worked: &Worked, set: &Set) -> 
         location(analysed.plan(), &cases::record(random, set, &worked.map).positions, set.tasks.len())?;
     }
     service(random, analysed, worked, set)
+}
+
+/// The same for a list, good or bad, that is to be cleaned.
+pub fn check_cleaning(random: &mut Random, words: &[u32], worked: &Worked) -> Result<(), String> {
+    let refusal = |refused: Refused| number_and_place(refused);
+    same("cleaned", arbiter::cleaned(words).map_err(refusal), worked.former.as_ref().map(|_| worked.clean.clone()).map_err(|refusal| *refusal))?;
+    let (mut slice, mut other) = (vec![0; cases::length(random, worked.clean.len())], vec![0; words.len()]);
+    let wanted = match worked.clean(&mut slice.clone()) {
+        Answer::Refused(refusal) => Err(refusal),
+        _ => Ok(&worked.clean[..]),
+    };
+    same("set that is cleaned into a slice", arbiter::Set::clean(words, &mut slice).map(arbiter::Set::words).map_err(refusal), wanted)?;
+    if let (Ok(set), Ok(package)) = (&worked.former, arbiter::Set::clean(words, &mut other)) {
+        same("number of states of a cleaned set", package.states(), set.grid())?;
+        let kept: Vec<usize> = (0..=set.capacities.len()).filter(|&device| arbiter::is_claimed(words, device)).collect();
+        same("devices that are kept", kept, set.claimed())?;
+    }
+    Ok(())
 }
 
 fn same<T: PartialEq + Debug>(what: &str, package: T, reference: T) -> Result<(), String> {

@@ -1,18 +1,25 @@
 -- `printing::print` meets its contract: by what the bytes are, what `print_plan` shows of their words, or the refusal.
 use Prim.Native.Nat.{ℕ, _≤_}
 use native.Mathlib.Omega.{arith}
-use mathlib.Core.Path.{_≡_, sym, ap, ap₂, _∙_}
+use mathlib.Core.Path.{_≡_, refl, sym, _∙_}
+use mathlib.Core.List.{List}
 use lib.ListN.{length, replicate, length-replicate}
 use lib.Seq.{length-take-le}
 use borrow.Author.Needs.{needs}
-use Rattle.model.specs.Answer.{given, _then_}
+use Rattle.model.specs.Answer.{Answer, _then_}
 use Rattle.model.specs.Read.{read}
-use Rattle.model.specs.Printed.{wordsIn, wordsOf, toPrint, textOf, shown}
-use Rattle.listing.proofs.Callers.{word-count, as-refused}
-use Rattle.model.proofs.ToPrint.{of-words, of-none, long-enough, too-short}
-use Rattle.printing.proofs.Shown.{bytes-of, file-words}
+use Rattle.model.specs.Printed.{wordsOf, toPrint, textOf}
+use Rattle.model.proofs.ToPrint.{long-enough, too-short}
+use Rattle.listing.specs.declared.Decoded.the-variants.{Words}
+use Rattle.listing.specs.Words.{decodedOf}
+use Rattle.listing.proofs.Callers.{word-count}
+use Rattle.listing.proofs.Shown.{words-shown, none-shown}
 use Rattle.printing.proofs.print.Statement.{statement}
 use Rattle.printing.proofs.print.Tie as tie
+
+-- what there is to print of a set's words
+abbrev toShow : List ℕ → Answer (List ℕ)
+toShow ws = read ws then toPrint
 
 returns : tie.Need-returns
 returns c = let a = c .before .before .before .args in (too-short (a .bytes .now) (a .text .now) (c .if1 .taken), omega arith)
@@ -37,13 +44,12 @@ accepted c = c .before .before .before .before
 abbrev turned : tie.After-known-told2 → tie.After-decode
 turned c = c .before .before .before .before
 
--- they are all that the bytes have
-all-words : (c : tie.After-known-told) → let bs = begun (accepted c) .args .bytes .now in let k = c .before .count .given .0 .0 in
-    (wordsOf bs ≡ given (wordsIn bs)) × (k ≡ length (wordsIn bs)) × (k ≤ 4096)
-all-words c = word-count _ _ (sym (c .before .count .given .1) ∙ accepted c .decode .ensures .0)
+-- so many words
+decoded : (c : tie.After-known-told) → Words (c .before .count .given .0 .0) ≡ decodedOf (wordsOf (begun (accepted c) .args .bytes .now))
+decoded c = sym (c .before .count .given .1) ∙ accepted c .decode .ensures .0
 
 within : (c : tie.After-known-told) → c .before .count .given .0 .0 ≤ length (accepted c .decode .last .1 .0)
-within c = omega (arith, all-words c .2, accepted c .decode .kept .1 .0, length-replicate {A = ℕ} 4096 0)
+within c = omega (arith, word-count _ _ (decoded c) .2, accepted c .decode .kept .1 .0, length-replicate {A = ℕ} 4096 0)
 
 array-share-prefix-words : tie.Need-array-share-prefix-words
 array-share-prefix-words c = within c
@@ -64,30 +70,28 @@ same-length : tie.Need-same-length
 same-length c = search needs
 
 returns-2 : tie.Need-returns-2
+unfolding textOf
 returns-2 c =
     let printed = c .before .before in
     let told = printed .before .before .before in
     let e = printed .print-plan .ensures in
     let a = begun (accepted told) .args in
-    let bs = a .bytes .now in
-    let text = a .text .now in
-    let w = all-words told in
-    let ws = file-words bs (replicate 4096 0) _ _ (w .0) (w .1) (omega (arith, w .2, length-replicate {A = ℕ} 4096 0)) (accepted told .decode .ensures .1) in
-    (e .0 ∙ ap (λ l. shown (textOf (read l then toPrint)) text) ws ∙ ap (λ t. shown t text) (sym (of-words bs (wordsIn bs) (w .0))) ∙ long-enough bs text (omega arith), e .1)
+    let room = length-replicate {A = ℕ} 4096 0 in
+    let s = words-shown textOf (λ n p. refl) (a .text .now) toShow (a .bytes .now) (replicate 4096 0) _ _ _ (decoded told) (omega arith) (accepted told .decode .ensures .1) (e .0) in
+    (s ∙ long-enough (a .bytes .now) (a .text .now) (omega arith), e .1)
 
 same-length-2 : tie.Need-same-length-2
 same-length-2 c = search needs
 
 returns-3 : tie.Need-returns-3
+unfolding textOf
 returns-3 c =
     let put = c .before .before in
     let told = put .before .before in
     let e = put .put-refusal .ensures in
     let a = begun (turned told) .args in
-    let bs = a .bytes .now in
-    let text = a .text .now in
-    let none = of-none bs _ _ (as-refused (wordsOf bs) _ _ (sym (told .before .number .given .1) ∙ turned told .decode .ensures .0)) in
-    (ap₂ bytes-of (e .0) (e .1 .1) ∙ ap (λ t. shown t text) (sym none) ∙ long-enough bs text (omega arith), omega (arith, e .1 .0))
+    let s = none-shown textOf (λ n p. refl) (a .text .now) toShow (a .bytes .now) _ _ _ _ (sym (told .before .number .given .1) ∙ turned told .decode .ensures .0) (e .0) (e .1 .1) in
+    (s ∙ long-enough (a .bytes .now) (a .text .now) (omega arith), omega (arith, e .1 .0))
 
 pub print-spec : {M : Type 1} → statement M
 print-spec =

@@ -1,7 +1,7 @@
 -- `printing::print_plan` meets its contract: by what the analysis answers, the lines of its plan, which all have room, or the refusal's.
 use Prim.Native.Nat.{ℕ, _≤_}
 use native.Mathlib.Omega.{arith}
-use mathlib.Core.Path.{_≡_, sym, ap, ap₂, _∙_}
+use mathlib.Core.Path.{_≡_, refl, sym, ap, _∙_}
 use mathlib.Core.List.{List}
 use lib.ListN.{length, take, length-replicate}
 use lib.Seq.{length-take-le}
@@ -9,7 +9,9 @@ use borrow.Author.Needs.{needs}
 use Rattle.model.specs.Answer.{given, _then_}
 use Rattle.model.specs.Read.{read}
 use Rattle.model.specs.Printed.{toPrint, textOf, shown}
-use Rattle.printing.proofs.Shown.{bytes-of, has-plan, has-none, all-lines}
+use Rattle.model.proofs.Rows.{lines}
+use Rattle.listing.proofs.Shown.{all-rows, line-shown}
+use Rattle.printing.proofs.Shown.{has-plan, has-none}
 use Rattle.printing.proofs.print_plan.Statement.{statement}
 use Rattle.printing.proofs.print_plan.Tie as tie
 
@@ -78,7 +80,7 @@ returns c =
     let ws : List ℕ = take (told .before .count .given .0 .0) (accepted told .analyse .last .1 .1 .0) in
     let n : length ws ≡ told .before .count .given .0 .0 = length-take-le _ _ (within told) in
     let few = whole told .1 in
-    (all-lines ws text _ _ (omega arith) (f .0) (f .1) ∙ ap (λ x. shown (textOf x) text) (sym (whole told .0)), omega (arith, f .0))
+    (all-rows lines ws text _ _ (omega (arith, f .0)) (f .1) ∙ ap (λ x. shown (textOf x) text) (sym (whole told .0)), omega (arith, f .0))
 
 same-length-2 : tie.Need-same-length-2
 same-length-2 c = search needs
@@ -92,7 +94,7 @@ returns-2 c =
     let a = turned told .analyse in
     let text = begun (turned told) .args .text .now in
     let none = has-none _ _ _ _ _ _ (omega (arith, length-replicate {A = ℕ} 65536 255)) (length-replicate {A = ℕ} 16384 0) (a .ensures) _ _ (told .before .number .given .1) in
-    (ap₂ bytes-of (e .0) (e .1 .1) ∙ ap (λ x. shown (textOf x) text) (sym none), omega (arith, e .1 .0))
+    (line-shown textOf (λ n p. refl) text _ _ _ _ _ none (e .0) (e .1 .1), omega (arith, e .1 .0))
 
 pub print-plan-spec : {M : Type 1} → statement M
 print-plan-spec =

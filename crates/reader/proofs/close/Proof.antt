@@ -37,18 +37,18 @@ refuse-requires c κs = search needs
 
 returns : tie.Need-returns
 unfolding model.close
-returns c m ended few e =
+returns c m few e =
     let w = c .before .before .before in
     let told = weighed m few _ _ e (w .weigh .ensures) in
-    c .refuse .ensures ∙ rw (ended, lt-ltb 65536 (size (lengthsOf (m .set))) (told .over (c .before .if1 .taken)))
+    c .refuse .ensures ∙ rw (lt-ltb 65536 (size (lengthsOf (m .set))) (told .over (c .before .if1 .taken)))
 
 returns-2 : tie.Need-returns-2
 unfolding model.close verdictOf setOf
-returns-2 c m ended few e =
+returns-2 c m few e =
     let w = c .before .before in
     let told = weighed m few _ _ e (w .weigh .ensures) in
     let within = c .if1 .left in
-    rw (told .grid within, told .weights within, e, ended, le-ltb 65536 (size (lengthsOf (m .set))) (rw (told .grid within) at within))
+    rw (told .grid within, told .weights within, e, le-ltb 65536 (size (lengthsOf (m .set))) (rw (told .grid within) at within))
 
 pub close-spec : {M : Type 1} → statement M
 close-spec = tie.close (tie.spec weigh-requires sub-refuse refuse-requires returns returns-2)

@@ -1,4 +1,4 @@
--- `corpus::calls::answer_call` meets its contract: no more of the map is lent than there is.
+-- `corpus::calls::answer_call` meets its contract: no more of the words and of the map is lent than there is.
 use mathlib.Core.Path.{sym}
 use native.Mathlib.Omega.{arith}
 use lib.Seq.{length-take-le}
@@ -9,17 +9,23 @@ use Rattle.corpus.proofs.calls.answer_call.Tie as tie
 least-requires : tie.Need-least-requires
 least-requires c κs = search needs
 
+least-requires-2 : tie.Need-least-requires-2
+least-requires-2 c κs = search needs
+
 record-of-requires : tie.Need-record-of-requires
 record-of-requires c κs = search needs
 
-cast-t12 : tie.Need-cast-t12
-cast-t12 c = search needs
+cast-next : tie.Need-cast-next
+cast-next c = search needs
 
-cast-t13 : tie.Need-cast-t13
-cast-t13 c = search needs
+cast-next-2 : tie.Need-cast-next-2
+cast-next-2 c = search needs
 
 slice-aggregate-show-route : tie.Need-slice-aggregate-show-route
 slice-aggregate-show-route c = sym (length-take-le _ _ (omega arith))
+
+slice-aggregate-show-route-2 : tie.Need-slice-aggregate-show-route-2
+slice-aggregate-show-route-2 c = sym (length-take-le _ _ (omega arith))
 
 cast-show-route : tie.Need-cast-show-route
 cast-show-route c = search needs
@@ -29,6 +35,9 @@ show-route-requires c κs = search needs
 
 slice-aggregate-show-served : tie.Need-slice-aggregate-show-served
 slice-aggregate-show-served c = sym (length-take-le _ _ (omega arith))
+
+slice-aggregate-show-served-2 : tie.Need-slice-aggregate-show-served-2
+slice-aggregate-show-served-2 c = sym (length-take-le _ _ (omega arith))
 
 show-served-requires : tie.Need-show-served-requires
 show-served-requires c κs = search needs
@@ -53,13 +62,16 @@ answer-call-spec =
     tie.close
     (tie.spec
     least-requires
+    least-requires-2
     record-of-requires
-    cast-t12
-    cast-t13
+    cast-next
+    cast-next-2
     slice-aggregate-show-route
+    slice-aggregate-show-route-2
     cast-show-route
     show-route-requires
     slice-aggregate-show-served
+    slice-aggregate-show-served-2
     show-served-requires
     returns
     returns-2

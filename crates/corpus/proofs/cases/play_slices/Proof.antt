@@ -1,4 +1,4 @@
--- `corpus::cases::play_slices` meets its contract: no more of each slice is lent than there is, and the calls stand behind the set's words.
+-- `corpus::cases::play_slices` meets its contract: no more of each slice is lent than there is.
 use mathlib.Core.Path.{sym}
 use native.Mathlib.Omega.{arith}
 use lib.Seq.{length-take-le}
@@ -15,41 +15,23 @@ least-requires-2 c κs = search needs
 least-requires-3 : tie.Need-least-requires-3
 least-requires-3 c κs = search needs
 
-least-requires-4 : tie.Need-least-requires-4
-least-requires-4 c κs = search needs
+slice-relend-prefix-analyse : tie.Need-slice-relend-prefix-analyse
+slice-relend-prefix-analyse c = search needs
 
-slice-aggregate-show-analysis : tie.Need-slice-aggregate-show-analysis
-slice-aggregate-show-analysis c = sym (length-take-le _ _ (omega arith))
+slice-aggregate-analyse : tie.Need-slice-aggregate-analyse
+slice-aggregate-analyse c = sym (length-take-le _ _ (omega arith))
 
-slice-relend-prefix-show-analysis : tie.Need-slice-relend-prefix-show-analysis
-slice-relend-prefix-show-analysis c = search needs
+slice-relend-prefix-analyse-2 : tie.Need-slice-relend-prefix-analyse-2
+slice-relend-prefix-analyse-2 c = search needs
 
-slice-aggregate-show-analysis-2 : tie.Need-slice-aggregate-show-analysis-2
-slice-aggregate-show-analysis-2 c = sym (length-take-le _ _ (omega arith))
+slice-aggregate-analyse-2 : tie.Need-slice-aggregate-analyse-2
+slice-aggregate-analyse-2 c = sym (length-take-le _ _ (omega arith))
 
-slice-relend-prefix-show-analysis-2 : tie.Need-slice-relend-prefix-show-analysis-2
-slice-relend-prefix-show-analysis-2 c = search needs
-
-slice-aggregate-show-analysis-3 : tie.Need-slice-aggregate-show-analysis-3
-slice-aggregate-show-analysis-3 c = sym (length-take-le _ _ (omega arith))
-
-show-analysis-requires : tie.Need-show-analysis-requires
-show-analysis-requires c κs = search needs
+analyse-requires : tie.Need-analyse-requires
+analyse-requires c κs = search needs
 
 slice-aggregate-play-calls : tie.Need-slice-aggregate-play-calls
 slice-aggregate-play-calls c = sym (length-take-le _ _ (omega arith))
-
-mul-play-calls : tie.Need-mul-play-calls
-mul-play-calls c = search needs
-
-sub-play-calls : tie.Need-sub-play-calls
-sub-play-calls c = search needs
-
-part-play-calls-start : tie.Need-part-play-calls-start
-part-play-calls-start c = search needs
-
-part-play-calls-end : tie.Need-part-play-calls-end
-part-play-calls-end c = search needs
 
 slice-relend-prefix-play-calls : tie.Need-slice-relend-prefix-play-calls
 slice-relend-prefix-play-calls c = search needs
@@ -72,6 +54,9 @@ same-length c = search needs
 same-length-2 : tie.Need-same-length-2
 same-length-2 c = search needs
 
+same-length-3 : tie.Need-same-length-3
+same-length-3 c = search needs
+
 returns : tie.Need-returns
 returns c = search needs
 
@@ -82,18 +67,12 @@ play-slices-spec =
     least-requires
     least-requires-2
     least-requires-3
-    least-requires-4
-    slice-aggregate-show-analysis
-    slice-relend-prefix-show-analysis
-    slice-aggregate-show-analysis-2
-    slice-relend-prefix-show-analysis-2
-    slice-aggregate-show-analysis-3
-    show-analysis-requires
+    slice-relend-prefix-analyse
+    slice-aggregate-analyse
+    slice-relend-prefix-analyse-2
+    slice-aggregate-analyse-2
+    analyse-requires
     slice-aggregate-play-calls
-    mul-play-calls
-    sub-play-calls
-    part-play-calls-start
-    part-play-calls-end
     slice-relend-prefix-play-calls
     slice-aggregate-play-calls-2
     slice-relend-prefix-play-calls-2
@@ -101,4 +80,5 @@ play-slices-spec =
     play-calls-requires
     same-length
     same-length-2
+    same-length-3
     returns)

@@ -1,20 +1,18 @@
 -- `listing::text::fill_lines` meets its contract. The invariant: the lines of the first k words are written at the front of the slice.
 -- Assumes nothing.
-use mathlib.Core.Path.{_≡_, refl, sym, ap, ap₂, _∙_}
-use mathlib.Core.List.{List}
-use Prim.Native.Nat.{ℕ, _*_, _-_, _≤_}
+use mathlib.Core.Path.{sym, ap}
+use Prim.Native.Nat.{_-_, _≤_}
 use native.Mathlib.Omega.{arith}
-use lib.ListN.{length, take}
+use lib.ListN.{length}
 use borrow.Author.Needs.{needs}
-use Rattle.model.specs.Slice.{write}
 use Rattle.model.specs.Printed.{linesOf}
-use Rattle.model.proofs.Slices.{write-none, write-front}
-use Rattle.listing.proofs.Rows.{lines-turn}
+use Rattle.model.proofs.Rows.{lines}
+use Rattle.listing.proofs.Rows.{Filled, none-filled, one-filled, all-filled}
 use Rattle.listing.proofs.text.fill_lines.Statement.{statement}
 use Rattle.listing.proofs.text.fill_lines.Tie as tie
 
 abbrev Inv-loop : tie.InvT-loop
-Inv-loop words out₀ count k₀ out k = (k ≤ count) × (length out ≡ length out₀) × (out ≡ write out₀ 0 (linesOf (take k words)))
+Inv-loop words out₀ count k₀ out k = (k ≤ count) × Filled linesOf words out₀ out k
 
 abbrev μ-loop : tie.MeasureT-loop
 μ-loop words out₀ count k₀ out k = count - k
@@ -23,8 +21,7 @@ least-requires : tie.Need-least-requires Inv-loop μ-loop
 least-requires c κs = search needs
 
 loop-holds : tie.Need-loop-holds Inv-loop μ-loop
-unfolding linesOf
-loop-holds c = (omega arith, refl, sym (write-none (c .before .before .before .args .out .now) 0 (omega arith)))
+loop-holds c = let a = c .before .before .before .args in (omega arith, none-filled lines (a .words .now) (a .out .now))
 
 mul-hex-line : tie.Need-mul-hex-line Inv-loop μ-loop
 mul-hex-line c = omega arith
@@ -56,25 +53,17 @@ loop-again c =
     let tested = c .before .before .before .before .before .before .before .before in
     let a = tested .before .before .before .before .args in
     let o = tested .loop in
-    let p = c .before .before .put in (
-      omega arith,
-      p .kept .1 .0 ∙ o .inv .1,
-      p .ensures .1 ∙ ap₂ (λ (d line : List ℕ). write d (o .k * 9) line) (o .inv .2) (line .ensures)
-          ∙ lines-turn (a .words .now) (a .out .now) (o .k) (omega arith) (omega arith),
-    )
+    let p = c .before .before .put in
+    (omega arith, one-filled lines (a .words .now) (a .out .now) _ _ _ (o .k) (omega arith) (omega arith) (o .inv .1) (line .ensures) (p .kept .1 .0) (p .ensures .1))
 
 same-length : tie.Need-same-length Inv-loop μ-loop
-same-length c = c .before .loop .inv .1
+same-length c = c .before .loop .inv .1 .0
 
 returns : tie.Need-returns Inv-loop μ-loop
 returns c =
     let a = c .before .before .before .before .before .args in
     let o = c .before .loop in
-    let count = c .before .before .least .result in
-    let q : o .k ≡ count = omega arith in (
-      omega arith,
-      o .inv .2 ∙ ap (λ (j : ℕ). write (a .out .now) 0 (linesOf (take j (a .words .now)))) q ∙ write-front (a .out .now) (linesOf (take count (a .words .now))),
-    )
+    (omega arith, all-filled lines (a .words .now) (a .out .now) (o .out) (o .k) (c .before .before .least .result) (o .inv .1) (omega arith))
 
 pub fill-lines-spec : {M : Type 1} → statement M
 fill-lines-spec =

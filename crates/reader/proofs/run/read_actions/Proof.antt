@@ -19,11 +19,11 @@ use Rattle.reader.proofs.run.read_actions.Statement.{statement}
 use Rattle.reader.proofs.run.read_actions.Tie as tie
 
 abbrev Inv-loop : tie.InvT-loop
-Inv-loop words from devices tasks held₀ i₀ held i =
-    (from ≤ i) × (i - from ≤ 255) × ((s : Scan) → Opened words s devices tasks held₀ from → Reached words (counted s (i - from) held) i)
+Inv-loop words from devices tasks held₀ claimed₀ i₀ held claimed i =
+    (from ≤ i) × (i - from ≤ 255) × ((s : Scan) → Opened words s devices tasks held₀ claimed₀ from → Reached words (counted s (i - from) held claimed) i)
 
 abbrev μ-loop : tie.MeasureT-loop
-μ-loop words from devices tasks held₀ i₀ held i = length words - i
+μ-loop words from devices tasks held₀ claimed₀ i₀ held claimed i = length words - i
 
 -- a kind between CLAIM and RELEASE is one of them, and each is told by whether it is CLAIM
 kind-of-action : (k : ℕ) → 3 ≤ k → k ≤ 4 → k ≡ cond (eqb k 3) 3 4
@@ -38,7 +38,7 @@ an-action true = (omega arith, omega arith)
 an-action false = (omega arith, omega arith)
 
 loop-holds : tie.Need-loop-holds Inv-loop μ-loop
-loop-holds c = (omega arith, omega arith, λ s o. no-action _ s _ _ _ _ o)
+loop-holds c = (omega arith, omega arith, λ s o. no-action _ s _ _ _ _ _ o)
 
 mul-word : tie.Need-mul-word Inv-loop μ-loop
 mul-word c = search needs
@@ -125,6 +125,12 @@ element-write-held : tie.Need-element-write-held Inv-loop μ-loop
 element-write-held c =
     omega (arith, action-kept _ _ _ _ _ _ (free c) .0, few (here c), c .before .before .before .field .ensures)
 
+cast-claimed : tie.Need-cast-claimed Inv-loop μ-loop
+cast-claimed c = search needs
+
+element-write-claimed : tie.Need-element-write-claimed Inv-loop μ-loop
+element-write-claimed c = element-write-held c
+
 add-i : tie.Need-add-i Inv-loop μ-loop
 add-i c = search needs
 
@@ -139,7 +145,7 @@ loop-again c =
       omega (arith, inv .0, room),
       λ s o.
           rw (c .before .before .before .field .ensures, told c .kind .ensures)
-          (one-action _ s _ _ _ _ o _ _ (inv .2 s o) (inv .0) (inside c) _ (kind-is c) (free c)),
+          (one-action _ s _ _ _ _ _ o _ _ _ (inv .2 s o) (inv .0) (inside c) _ (kind-is c) (free c)),
     )
 
 returns-3 : tie.Need-returns-3 Inv-loop μ-loop
@@ -164,6 +170,8 @@ read-actions-spec =
     returns-2
     cast-held
     element-write-held
+    cast-claimed
+    element-write-claimed
     add-i
     loop-less
     loop-again

@@ -7,8 +7,7 @@ use mathlib.Core.List.{List}
 use native.Mathlib.Omega.{arith}
 use lib.ListN.{length}
 use Rattle.model.specs.Answer.{refused}
-use Rattle.model.specs.Read.{nothingRead, readFrom}
-use Rattle.model.specs.Read as model
+use Rattle.model.specs.Read.{nothingRead, readFrom, readWords}
 use Rattle.reader.specs.declared.words.Words.{Words}
 use Rattle.reader.specs.Follow.{ReadsAll}
 use Rattle.reader.proofs.Steps.{start-limits}
@@ -17,26 +16,26 @@ use Rattle.reader.proofs.Ending.{no-end, fault-here, after-end, whole}
 use Rattle.reader.proofs.words.read_words.Statement.{statement}
 use Rattle.reader.proofs.words.read_words.Tie as tie
 
-started : (ws : List ℕ) → (length ws ≡ 0 → ⊥) → length ws ≤ 4096 → model.read ws ≡ readFrom nothingRead 0 ws
-unfolding model.read
+started : (ws : List ℕ) → (length ws ≡ 0 → ⊥) → length ws ≤ 4096 → readWords ws ≡ readFrom nothingRead 0 ws
+unfolding readWords
 started ws h k = rw (ne-eqb _ _ h, le-ltb _ _ k)
 
 -- a fault
-refuses : (ws : List ℕ) (r : Words) (n p : ℕ) → (r .fault ≡ n) × (r .place ≡ p) → 0 < n → model.read ws ≡ refused n p → ReadsAll ws r
+refuses : (ws : List ℕ) (r : Words) (n p : ℕ) → (r .fault ≡ n) × (r .place ≡ p) → 0 < n → readWords ws ≡ refused n p → ReadsAll ws r
 refuses ws r n p told some e = record { stopped = λ h. rw (told .0, told .1) e; whole = λ h. absurd (omega (arith, told .0)) }
 
 stop-requires : tie.Need-stop-requires
 stop-requires c κs = search needs
 
 returns : tie.Need-returns
-unfolding model.read
+unfolding readWords
 returns c = refuses _ _ _ _ (c .stop .ensures) (omega arith) (rw (eq-eqb _ _ (c .before .if1 .taken)))
 
 stop-requires-2 : tie.Need-stop-requires-2
 stop-requires-2 c κs = search needs
 
 returns-2 : tie.Need-returns-2
-unfolding model.read
+unfolding readWords
 returns-2 c =
     refuses _ _ _ _ (c .stop2 .ensures) (omega arith) (rw (ne-eqb _ _ (c .before .before .if1 .left), lt-ltb _ _ (c .before .if2 .taken)))
 
