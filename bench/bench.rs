@@ -21,7 +21,7 @@ mod sys;
 use std::arch::{asm, global_asm};
 use std::hint::black_box;
 use std::time::Instant;
-use sys::Answer;
+use sys::{Analysis, Answer};
 
 const UNWRITTEN: u8 = 0xFF; // fills a map slice before the analysis, as hosts do
 const MAP: usize = 65536; // bytes: fits every set
@@ -60,6 +60,13 @@ fn of_length(kind: u32, answer: Result<usize, baseline::Refusal>) -> Answer {
     answer.map_or_else(refused, |length| plain(kind, length as u64))
 }
 
+fn of_analysis(answer: Result<baseline::Planned, baseline::Refusal>) -> Analysis {
+    match answer {
+        Ok(baseline::Planned { words, quotient, remainder }) => Analysis { answer: plain(sys::PLANNED, words as u64), quotient, remainder },
+        Err(refusal) => Analysis { answer: refused(refusal), quotient: 0, remainder: 0 },
+    }
+}
+
 fn of_question(answer: Result<baseline::Located, baseline::Refusal>) -> Answer {
     match answer {
         Ok(baseline::Located::Forbidden(index)) => plain(sys::IN_FORBIDDEN_BOX, index as u64),
@@ -93,7 +100,7 @@ fn read(words: &[u32]) -> Answer {
     unsafe { sys::arbiter_read(words.as_ptr(), words.len()) }
 }
 
-fn analyse(words: &[u32], map: &mut [u8], plan: &mut [u32]) -> Answer {
+fn analyse(words: &[u32], map: &mut [u8], plan: &mut [u32]) -> Analysis {
     unsafe { sys::arbiter_analyse(words.as_ptr(), words.len(), map.as_mut_ptr(), map.len(), plan.as_mut_ptr(), plan.len()) }
 }
 
@@ -269,9 +276,9 @@ impl Row<'_> {
 fn analyses(words: &[u32], room: usize) -> (Answer, bool, Times) {
     let (mut map, mut other_map) = (vec![UNWRITTEN; MAP], vec![UNWRITTEN; MAP]);
     let (mut plan, mut other_plan) = (vec![0u32; room], vec![0u32; room]);
-    let answer = analyse(words, &mut map, &mut plan);
-    let other = of_length(sys::PLANNED, baseline::analyse(words, &mut other_map, &mut other_plan));
-    let agree = answer == other && map == other_map && plan == other_plan;
+    let analysis = analyse(words, &mut map, &mut plan);
+    let other = of_analysis(baseline::analyse(words, &mut other_map, &mut other_plan));
+    let agree = analysis == other && map == other_map && plan == other_plan;
     let times = best_of(
         || {
             let _ = black_box(analyse(black_box(words), &mut map, &mut plan));
@@ -280,7 +287,7 @@ fn analyses(words: &[u32], room: usize) -> (Answer, bool, Times) {
             black_box(baseline::analyse(black_box(words), &mut other_map, &mut other_plan)).ok();
         },
     );
-    (answer, agree, times)
+    (analysis.answer, agree, times)
 }
 
 /// Bids that bring every task to its end, the tasks in turn, and the record after them. A finished task isn't asked for again, as in service.
@@ -311,7 +318,7 @@ fn name_of(file: &str) -> &str {
 fn service(words: &[u32]) -> (Vec<u8>, Vec<usize>, sys::Record) {
     let mut map = vec![UNWRITTEN; MAP];
     let mut plan = vec![0u32; PLAN];
-    if analyse(words, &mut map, &mut plan).kind != sys::PLANNED {
+    if analyse(words, &mut map, &mut plan).answer.kind != sys::PLANNED {
         return (map, vec![0], unsafe { sys::arbiter_fresh() });
     }
     let (tasks, end) = bids_to_the_end(words, &map, &baseline::read(words).unwrap());
@@ -334,7 +341,7 @@ fn lines_of(file: &str) -> Vec<Line> {
 /// The plan of a set and its task count; of a refused set no words and one task.
 fn stored_plan(words: &[u32]) -> (Vec<u32>, usize) {
     let (mut map, mut plan) = (vec![UNWRITTEN; MAP], vec![0u32; PLAN]);
-    let answer = analyse(words, &mut map, &mut plan);
+    let answer = analyse(words, &mut map, &mut plan).answer;
     plan.truncate(if answer.kind == sys::PLANNED { answer.value as usize } else { 0 });
     (plan, baseline::read(words).map_or(1, |set| set.tasks))
 }
@@ -427,7 +434,7 @@ const PAINT: u64 = 0xA5A5_A5A5_A5A5_A5A5;
 
 /// The bytes of stack that a call takes, its return address among them: down to the lowest one below this frame that has lost its paint.
 #[inline(never)]
-fn stack_of(call: impl FnOnce() -> Answer) -> usize {
+fn stack_of<T>(call: impl FnOnce() -> T) -> usize {
     let top: usize;
     // Nothing lives below the stack pointer here: without `nostack` the compiler keeps nothing there.
     unsafe {

@@ -1,10 +1,12 @@
 #!/usr/bin/env python3
 """constants.py [ROOT]: holds the numbers of the proved source, the C header and the Rust interface to docs/SCOPE.md and to each other.
 
-The same names with the same values must stand in all three, none missing and none left over: X in the source, ARBITER_X in C, X in Rust; in the
-source and in Rust with the same type. So must the calls, each marked in C as one whose answer must be used. The refusals' texts must be the same in
-C and Rust. The host in Python has all calls, and what numbers it has are these. ROOT is the repository, by default the one that this file is in.
+The same names with the same values must stand in all three, none missing and none left over but for what one side has for itself: X in the source,
+ARBITER_X in C, X in Rust; in the source and in Rust with the same type. So must the calls, each with the type of its answer, and in C marked as one
+whose answer must be used. The refusals' texts must be the same in C and Rust. The host in Python has all calls, and what numbers it has are these.
+ROOT is the repository, by default the one that this file is in.
 """
+import ctypes
 import importlib.util
 import re
 import sys
@@ -31,10 +33,13 @@ REFUSALS = """
 
 # The kinds of an answer, and the version: major times 10,000, minor times 100, patch.
 ANSWER_KINDS = "REFUSED ACCEPTED PLANNED ROUTED GRANTED FINISHED BUSY HELD RESTARTED IN_FORBIDDEN_BOX IN_UNSAFE_BOX IN_NO_BOX CLEANED".split()
-VERSION = {"VERSION": 30000}
+VERSION = {"VERSION": 40000}
 
 # What hosts use and the proved source doesn't know: in the header, and in the package's plain.rs.
 OF_HOSTS = {"NOT_ANALYSED": 0xFF}
+
+# What the proved source has for itself: no host lends it, and no answer has it.
+OF_SOURCE = {"THOUSAND": 1000}
 
 # Macros of the header that stand for no number.
 NO_NUMBERS = {"ARBITER_MUST_USE"}
@@ -105,20 +110,27 @@ def compare(found, wanted, where, what="value"):
             complaints.append(f"{where}: {name} has the {what} {found[name]!r}, not {wanted[name]!r}")
 
 
-def of_calls(paths, pattern, where):
-    """The calls that this pattern finds at the start of a line, each with its own name as the value."""
+def of_calls(paths, start, where):
+    """The calls that begin with this at the start of a line, in Rattle or Rust: name to the type of the answer."""
     text = "\n".join(path.read_text() for path in paths)
-    return once([(name, name) for name in re.findall(rf"^\s*{pattern}(arbiter_\w+)\(", text, re.M)], where)
+    return once(re.findall(rf"^\s*{start}(arbiter_\w+)\([^)]*\)\s*->\s*(\w+)", text, re.M), where)
+
+
+def of_header_calls(path):
+    """The calls of the header whose answer must be used: name to the type of the answer, in Rust's words."""
+    rows = re.findall(r"^ARBITER_MUST_USE (\w+) (arbiter_\w+)\(", path.read_text(), re.M)
+    return once([(name, "u32" if kind == "uint32_t" else camel(kind.replace("arbiter_", ""))) for kind, name in rows], path.name)
 
 
 def of_python(path):
-    """The numbers of the host in Python, and its calls but for the text, which isn't the library's."""
+    """The numbers of the host in Python, and its calls with the types of their answers; but for the text, which isn't the library's."""
     sys.dont_write_bytecode = True
     spec = importlib.util.spec_from_file_location(path.stem, path)
     module = importlib.util.module_from_spec(spec)
     spec.loader.exec_module(module)
     numbers = {name: value for name, value in vars(module).items() if name.isupper() and isinstance(value, int)}
-    return numbers, {name: name for name in module.CALLS if name != "arbiter_refusal_text"}
+    answers = {name: answer for name, (_, answer) in module.CALLS.items() if name != "arbiter_refusal_text"}
+    return numbers, {name: "u32" if answer is ctypes.c_uint32 else answer.__name__ for name, answer in answers.items()}
 
 
 def camel(name):
@@ -131,7 +143,7 @@ def main(root):
     safe = root / "hosts/rust/src/lib.rs"
 
     values, types = of_source(source, "the source")
-    compare(values, WANTED, "the source")
+    compare(values, {**WANTED, **OF_SOURCE}, "the source")
     rust_values, rust_types = of_source([root / "hosts/rust/src/sys.rs"], "sys.rs")
     compare(rust_values, WANTED, "sys.rs")
     both = types.keys() & rust_types.keys()
@@ -140,13 +152,13 @@ def main(root):
     compare(of_source([root / "hosts/rust/src/plain.rs"], "plain.rs")[0], OF_HOSTS, "plain.rs")
 
     calls = of_calls(sorted((root / "crates/arbiter/src").glob("*.rt")), r'pub extern "C" fn ', "the source")
-    compare(of_calls([header], r"ARBITER_MUST_USE \w+ ", "arbiter.h"), calls, "arbiter.h", "call that must be used")
-    compare(of_calls([root / "hosts/rust/src/sys.rs"], r"pub fn ", "sys.rs"), calls, "sys.rs", "call")
+    compare(of_header_calls(header), calls, "arbiter.h", "answer that must be used")
+    compare(of_calls([root / "hosts/rust/src/sys.rs"], r"pub fn ", "sys.rs"), calls, "sys.rs", "answer")
 
     python_numbers, python_calls = of_python(root / "hosts/python/serve.py")
     known = {**WANTED, **OF_HOSTS}
     compare(python_numbers, {name: known[name] for name in python_numbers.keys() & known.keys()}, "serve.py")
-    compare(python_calls, calls, "serve.py", "call")
+    compare(python_calls, calls, "serve.py", "answer")
 
     variants = once(re.findall(r"^\s*(\w+) = sys::(\w+),", safe.read_text(), re.M), "lib.rs")
     compare(variants, {camel(name): name for name in REFUSALS}, "lib.rs", "number")

@@ -33,7 +33,7 @@
 
 /* The version of this header: major times 10,000, minor times 100, patch. Header and library must be of the same one, since structs and
  * numbers may differ between two: compare it with arbiter_version() once, when the host starts, and stop if they differ. */
-#define ARBITER_VERSION 30000
+#define ARBITER_VERSION 40000
 
 /* The limits of a set. */
 #define ARBITER_MAX_WORDS 4096
@@ -80,7 +80,7 @@
 /* The kinds of an answer. An answer that is all zeros is a refusal, so that one never filled in can't pass for a grant. */
 #define ARBITER_REFUSED 0          /* the call was turned back; refusal: why; value: the place, see the refusals */
 #define ARBITER_ACCEPTED 1         /* arbiter_read: the set is well formed; value: its number of states, the map's length */
-#define ARBITER_PLANNED 2          /* arbiter_analyse: map and plan are written; value: the number of plan words */
+#define ARBITER_PLANNED 2          /* arbiter_analyse: map and plan are written; value: the number of plan words; beside it the parts per thousand */
 #define ARBITER_ROUTED 3           /* arbiter_route: the route is written; value: its length */
 #define ARBITER_GRANTED 4          /* arbiter_bid: the task makes its next action now; the record has moved on by it */
 #define ARBITER_FINISHED 5         /* arbiter_bid: the task has no action left; don't ask for it before arbiter_again */
@@ -133,6 +133,19 @@ typedef struct arbiter_answer {
     uint64_t value;
 } arbiter_answer;
 
+/* What an analysis answers: how much of the grid is unsafe stands beside the answer, in parts per thousand. If the answer is PLANNED,
+ *
+ *     1,000 * unsafe states = quotient * permitted states + remainder, and the remainder is less than the permitted states,
+ *
+ * where the permitted states are those whose map byte is OPEN, UNSAFE or DEAD, and the unsafe ones those with UNSAFE or DEAD. So of every 1,000
+ * permitted states quotient are unsafe, rounded down, and the remainder says exactly what was cut off. The quotient is at most 999. Both are 0 exactly
+ * if no state is unsafe. In a refused answer, 14 too, both are 0 and tell nothing. */
+typedef struct arbiter_analysis {
+    arbiter_answer answer;
+    uint32_t quotient;
+    uint32_t remainder;
+} arbiter_analysis;
+
 /* The broker's record: for each task how many of its actions are done, 0 for tasks that the set doesn't have; and the number of
  * grants so far, which goes from 4,294,967,295 to 0. Start from arbiter_fresh, and let nobody but the calls write it. */
 typedef struct arbiter_record {
@@ -145,7 +158,7 @@ typedef struct arbiter_state {
     uint8_t positions[ARBITER_MAX_TASKS];
 } arbiter_state;
 
-/* The compiler must lay all three out as the library does. */
+/* The compiler must lay all four out as the library does. */
 #if defined(__cplusplus) && __cplusplus >= 201103L
 #define ARBITER_ASSERT(name, condition) static_assert(condition, #name)
 #elif !defined(__cplusplus) && defined(__STDC_VERSION__) && __STDC_VERSION__ >= 201112L
@@ -157,6 +170,10 @@ ARBITER_ASSERT(size_of_answer, sizeof(arbiter_answer) == 16);
 ARBITER_ASSERT(place_of_kind, offsetof(arbiter_answer, kind) == 0);
 ARBITER_ASSERT(place_of_refusal, offsetof(arbiter_answer, refusal) == 4);
 ARBITER_ASSERT(place_of_value, offsetof(arbiter_answer, value) == 8);
+ARBITER_ASSERT(size_of_analysis, sizeof(arbiter_analysis) == 24);
+ARBITER_ASSERT(place_of_answer, offsetof(arbiter_analysis, answer) == 0);
+ARBITER_ASSERT(place_of_quotient, offsetof(arbiter_analysis, quotient) == 16);
+ARBITER_ASSERT(place_of_remainder, offsetof(arbiter_analysis, remainder) == 20);
 ARBITER_ASSERT(size_of_record, sizeof(arbiter_record) == 12);
 ARBITER_ASSERT(place_of_positions, offsetof(arbiter_record, positions) == 0);
 ARBITER_ASSERT(place_of_grants, offsetof(arbiter_record, grants) == 8);
@@ -203,13 +220,14 @@ ARBITER_MUST_USE uint32_t arbiter_version(void);
  * A set that may be empty: ARBITER_LEND(set). */
 ARBITER_MUST_USE arbiter_answer arbiter_read(const uint32_t *set, size_t set_len);
 
-/* Analyses a set. PLANNED with the number of plan words, or REFUSED 1 to 14 or 24.
- * Accepted: map[0] to map[states - 1] and the plan's words are written; what lies beyond stays as it was.
+/* Analyses a set. PLANNED with the number of plan words, and with the parts per thousand beside it; or REFUSED 1 to 14 or 24.
+ * Accepted: map[0] to map[states - 1] and the plan's words are written; what lies beyond stays as it was, and isn't counted either.
  * 14 leaves the finished map, and zeros in the whole plan slice; the others leave both slices untouched.
- * Fill the map slice with ARBITER_NOT_ANALYSED before. A host that wants no plan lends 0 words for it and goes on at 14.
+ * Fill the map slice with ARBITER_NOT_ANALYSED before. A host that wants no plan lends 0 words for it and goes on at 14; if it wants the parts per
+ * thousand all the same, it counts the map's bytes itself.
  * Slices that may be empty: ARBITER_LEND(set), ARBITER_LEND(map), ARBITER_LEND(plan). */
-ARBITER_MUST_USE arbiter_answer arbiter_analyse(const uint32_t *set, size_t set_len, uint8_t *map, size_t map_len, uint32_t *plan,
-                                                size_t plan_len);
+ARBITER_MUST_USE arbiter_analysis arbiter_analyse(const uint32_t *set, size_t set_len, uint8_t *map, size_t map_len, uint32_t *plan,
+                                                  size_t plan_len);
 
 /* A record at the start of every task, with no grants: all zeros. */
 ARBITER_MUST_USE arbiter_record arbiter_fresh(void);

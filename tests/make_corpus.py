@@ -27,7 +27,7 @@ into the two slices, then the calls are made in order, accepted or not, on what 
    13 ANALYSE                          the set is analysed anew into the two slices, filled as at the start
 
 Output, a line each:
-    case NUMBER: planned WORDS         or refused N at P
+    case NUMBER: PLANNED               planned WORDS, unsafe QUOTIENT/1000 rest REMAINDER, or refused N at P
     map:DIGITS                         the whole slice: 0 to 3, '.' for AA, '?' for anything else; over 256 bytes '~' and the checksum
     plan: WORD WORD ..                 the whole slice in hexadecimal; over 32 words '~' and the checksum
 and for each call that prints
@@ -38,7 +38,7 @@ and for each call that prints
     swept CHECKSUM:DIGITS              for a sweep: the checksum of the indices, a word each, 0 for none, P for a refusal; and for each state
                                        1 forbidden, 2 unsafe, 0 neither, 'x' refused; over 512 states '~' and the checksum of these bytes, 255 for 'x'
     ANSWER: WORD WORD ..               for a cleaning: cleaned WORDS or refused N at P; the whole slice, as a plan's
-    ANSWER                             for an analysis, planned WORDS or refused N at P, and behind it the lines of the map and the plan
+    PLANNED                            for an analysis, as for a case, and behind it the lines of the map and the plan
 RECORD, POKE, LEND, STORE and KEEP print nothing. The checksum is FNV-1a of 32 bits over the slice's bytes, a word's lowest byte first, in eight hexadecimal digits.
 """
 
@@ -156,6 +156,8 @@ def route_text(slice_):
 def answer_text(answer):
     if answer[0] == "refused":
         return "refused %d at %d" % answer[1:]
+    if answer[0] == "planned":
+        return "planned %d, unsafe %d/1000 rest %d" % answer[1:]
     return " ".join(str(part) for part in answer)
 
 
@@ -1105,10 +1107,52 @@ def cleaning_cases(dice):
     return cases
 
 
+# --- Parts per thousand ---
+
+
+def padded_ring(holds):
+    """A ring in which each philosopher also holds a device of its own, so many times between its two claims and so many times at its end: the former make many states
+    unsafe, the latter make them few among many."""
+    count = len(holds)
+    tasks = []
+    for i, (between, after) in enumerate(holds):
+        own = [(CLAIM, count + i), (RELEASE, count + i)]
+        tasks.append([(CLAIM, i)] + own * between + [(CLAIM, (i + 1) % count), (RELEASE, i), (RELEASE, (i + 1) % count)] + own * after)
+    return Set([1] * (2 * count), tasks)
+
+
+# Two large grids with nearly all states unsafe, and smaller ones of two to five tasks, with one unsafe state of thousands among them.
+PADDED = [
+    ((125, 0), (125, 0)), ((17, 0), (17, 0), (17, 0)), ((0, 20), (0, 20)), ((2, 40), (3, 39)), ((5, 30), (5, 30)), ((10, 10), (11, 9)), ((4, 0), (4, 0)),
+    ((3, 0), (5, 1)), ((0, 20), (20, 0)), ((2, 0), (2, 0), (2, 0)), ((1, 2), (3, 0), (2, 1)), ((1, 0),) * 4, ((1, 0),) * 5,
+]  # fmt: skip
+
+
+def crowded_set(dice):
+    """A random set with 66 unsafe states or more: 1,000 times their number takes over 16 bits."""
+    while True:
+        s = deep_set(dice, 4000)
+        if len(brute.unsafe_states(s, brute.permitted_states(s))) >= 66:
+            return s
+
+
+def counted_cases(dice):
+    """Sets with many unsafe states and with few among many: in map slices that fit, that are longer by a little and by far, and with a plan slice too short by one word."""
+    cases = []
+    for s in [padded_ring(holds) for holds in PADDED] + [crowded_set(dice) for _ in range(20)]:
+        words, grid, plan = words_of(*s), grid_of(s), plan_length(s)
+        calls = random_calls(dice, s, 4)
+        cases.append(Case(words, grid, plan, calls + own_plan_calls(s)))
+        cases.append(Case(words, grid + dice.pick([1, 3, 255, 256]), plan + 1, calls))
+        cases.append(Case(words, MAX_MAP, plan, calls))
+        cases.append(Case(words, grid, plan - 1, calls))
+    return cases
+
+
 def all_cases():
     dice = Dice(SEED)
     cases = named_cases(dice) + dead_cases(dice) + small_cases(dice) + faulty_cases(dice) + large_cases(dice) + stored_cases(dice)
-    return [with_cleaning(case) for case in cases] + cleaning_cases(dice)
+    return [with_cleaning(case) for case in cases] + cleaning_cases(dice) + [with_cleaning(case) for case in counted_cases(dice)]
 
 
 def swept_states(tasks, low, high):

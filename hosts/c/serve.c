@@ -64,16 +64,13 @@ static uint8_t *map_room(size_t len) {
     return map;
 }
 
-/* The plan, in a slice that is doubled while it is too short; its length is stored in *len. It starts short, so that even small sets show the
- * doubling; 1,024 words would do for most. */
-static uint32_t *plan_of(const uint32_t *set, size_t set_len, uint8_t *map, size_t map_len, size_t *len) {
+/* The plan, in a slice that is doubled while it is too short; what the last analysis answered is stored in *analysis, with the plan's length. It
+ * starts short, so that even small sets show the doubling; 1,024 words would do for most. */
+static uint32_t *plan_of(const uint32_t *set, size_t set_len, uint8_t *map, size_t map_len, arbiter_analysis *analysis) {
     for (size_t size = 8;; size *= 2) {
         uint32_t *plan = room(size, sizeof *plan);
-        arbiter_answer answer = arbiter_analyse(set, set_len, map, map_len, plan, size);
-        if (answer.refusal != ARBITER_PLAN_TOO_SHORT) {
-            *len = value_of(answer);
-            return plan;
-        }
+        *analysis = arbiter_analyse(set, set_len, map, map_len, plan, size);
+        if (analysis->answer.refusal != ARBITER_PLAN_TOO_SHORT) return plan;
         free(plan);
     }
 }
@@ -104,11 +101,13 @@ int main(int arguments, char **argument) {
     printf("words: %zu, devices: %zu, tasks: %zu, states: %zu\n", set_len, arbiter_device_count(set, set_len), tasks, map_len);
 
     uint8_t *map = map_room(map_len);
-    size_t plan_len;
-    uint32_t *plan = plan_of(set, set_len, map, map_len, &plan_len);
+    arbiter_analysis analysis;
+    uint32_t *plan = plan_of(set, set_len, map, map_len, &analysis);
+    size_t plan_len = value_of(analysis.answer);
     printf("forbidden boxes: %zu, unsafe boxes: %zu, dead states: %zu reached, %zu not\n", arbiter_count(plan, plan_len, ARBITER_FORBIDDEN_BOX),
            arbiter_count(plan, plan_len, ARBITER_UNSAFE_BOX), arbiter_count(plan, plan_len, ARBITER_DEAD_STATE),
            arbiter_count(plan, plan_len, ARBITER_UNREACHED_STATE));
+    printf("unsafe: %u of every 1000 permitted states, remainder %u\n", (unsigned)analysis.quotient, (unsigned)analysis.remainder);
 
     arbiter_record record = arbiter_fresh();
     size_t done = 0;

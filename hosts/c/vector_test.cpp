@@ -20,10 +20,11 @@ int main() {
 
     check(arbiter_read(ARBITER_LEND(no_set.data()), no_set.size()).refusal == ARBITER_NO_WORDS, "read without words");
     check(arbiter_read(ARBITER_LEND(set.data()), set.size()).value == map.size(), "read");
-    arbiter_answer no_room = arbiter_analyse(set.data(), set.size(), ARBITER_LEND(no_map.data()), 0, ARBITER_LEND(no_plan.data()), 0);
-    check(no_room.refusal == ARBITER_MAP_TOO_SHORT, "analyse without a map");
-    arbiter_answer no_words = arbiter_analyse(set.data(), set.size(), map.data(), map.size(), ARBITER_LEND(no_plan.data()), 0);
-    check(no_words.refusal == ARBITER_PLAN_TOO_SHORT && map[0] == ARBITER_OPEN, "analyse without a plan");
+    arbiter_analysis no_room = arbiter_analyse(set.data(), set.size(), ARBITER_LEND(no_map.data()), 0, ARBITER_LEND(no_plan.data()), 0);
+    check(no_room.answer.refusal == ARBITER_MAP_TOO_SHORT, "analyse without a map");
+    arbiter_analysis no_words = arbiter_analyse(set.data(), set.size(), map.data(), map.size(), ARBITER_LEND(no_plan.data()), 0);
+    check(no_words.answer.refusal == ARBITER_PLAN_TOO_SHORT && map[0] == ARBITER_OPEN, "analyse without a plan");
+    check(no_words.quotient == 0 && no_words.remainder == 0, "parts per thousand without a plan");
 
     arbiter_record record = arbiter_fresh();
     arbiter_answer bid = arbiter_bid(&record, set.data(), set.size(), ARBITER_LEND(no_map_to_read.data()), 0, 0);

@@ -8,7 +8,7 @@ import sys
 from ctypes import POINTER, c_char_p, c_size_t, c_uint8, c_uint32, c_uint64
 
 # The numbers of include/arbiter.h that are used here.
-VERSION = 30000
+VERSION = 40000
 MAX_WORDS = 4096
 NOT_ANALYSED = 0xFF
 DEVICE, TASK, FORBIDDEN_BOX, UNSAFE_BOX, DEAD_STATE, UNREACHED_STATE = 1, 2, 6, 7, 9, 10
@@ -18,6 +18,10 @@ TOO_MANY_WORDS, PLAN_TOO_SHORT, BYTES_NOT_WORDS = 2, 14, 15
 
 class Answer(ctypes.Structure):
     _fields_ = [("kind", c_uint32), ("refusal", c_uint32), ("value", c_uint64)]
+
+
+class Analysis(ctypes.Structure):
+    _fields_ = [("answer", Answer), ("quotient", c_uint32), ("remainder", c_uint32)]
 
 
 class Record(ctypes.Structure):
@@ -32,7 +36,7 @@ WORDS, BYTES = [POINTER(c_uint32), c_size_t], [POINTER(c_uint8), c_size_t]  # a 
 CALLS = {
     "arbiter_version": ([], c_uint32),
     "arbiter_read": (WORDS, Answer),
-    "arbiter_analyse": (WORDS + BYTES + WORDS, Answer),
+    "arbiter_analyse": (WORDS + BYTES + WORDS, Analysis),
     "arbiter_fresh": ([], Record),
     "arbiter_bid": ([POINTER(Record)] + WORDS + BYTES + [c_size_t], Answer),
     "arbiter_again": ([POINTER(Record)] + WORDS, Answer),
@@ -94,14 +98,15 @@ def count(words, kind):
 
 
 def analysed(library, words, states):
-    """The map, filled with a byte that no map has before the analysis writes it, and the plan, in a slice that is doubled while it is too short."""
+    """The map, filled with a byte that no map has before the analysis writes it; the plan, in a slice that is doubled while it is too short; and what
+    the last analysis answered."""
     set_words, state_bytes = lent(c_uint32, words), lent(c_uint8, [NOT_ANALYSED] * states)
     size = 8
     while True:
         plan = lent(c_uint32, [0] * size)
-        answer = library.arbiter_analyse(set_words, len(words), state_bytes, states, plan, size)
-        if answer.refusal != PLAN_TOO_SHORT:
-            return state_bytes, plan[:value_of(library, answer)]
+        analysis = library.arbiter_analyse(set_words, len(words), state_bytes, states, plan, size)
+        if analysis.answer.refusal != PLAN_TOO_SHORT:
+            return state_bytes, plan[:value_of(library, analysis.answer)], analysis
         size *= 2
 
 
@@ -120,9 +125,10 @@ def serve(library, path):
     tasks = count(words, TASK)
     print(f"words: {len(words)}, devices: {count(words, DEVICE)}, tasks: {tasks}, states: {states}")
 
-    state_bytes, plan = analysed(library, words, states)
+    state_bytes, plan, analysis = analysed(library, words, states)
     dead = f"{count(plan, DEAD_STATE)} reached, {count(plan, UNREACHED_STATE)} not"
     print(f"forbidden boxes: {count(plan, FORBIDDEN_BOX)}, unsafe boxes: {count(plan, UNSAFE_BOX)}, dead states: {dead}")
+    print(f"unsafe: {analysis.quotient} of every 1000 permitted states, remainder {analysis.remainder}")
 
     record = library.arbiter_fresh()
     number, done = 0, 0

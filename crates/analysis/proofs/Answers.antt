@@ -13,13 +13,14 @@ use Rattle.model.specs.Map.{mapOf}
 use Rattle.model.specs.Plan.{planOf, planWords}
 use Rattle.model.specs.Record.{mapFits}
 use Rattle.model.specs.Slice.{over}
-use Rattle.model.specs.Analysis.{planFits, analyse}
+use Rattle.model.specs.Analysis.{planFits, planned, analyse}
 use Rattle.model.proofs.DeadRanks.{map-length}
 use Rattle.plan_words.specs.Words.{Wrote}
 use Rattle.plan_words.specs.declared.Placed.{Placed}
 use Rattle.plan_words.specs.declared.Placed.the-variants.{Next, Full}
 use Rattle.plan_words.proofs.Write.{read-next, read-full}
-use Rattle.analysis.specs.declared.Outcome.the-variants.{Planned, Refused}
+use Rattle.analysis.specs.declared.Outcome.{Outcome}
+use Rattle.analysis.specs.declared.Outcome.the-variants.{Refused}
 use Rattle.analysis.specs.Says.{answerOf, analysedOf}
 use Rattle.analysis.specs.Sections.{HasMap}
 
@@ -38,12 +39,12 @@ module _ (words map plan : List ℕ) (s : Set) (is-read : read words ≡ given s
   module _ (room : size (lengthsOf s) ≤ length map) {made : List ℕ} (is-made : made ≡ over (mapOf s) map) {q : List ℕ} {r : Placed}
       (wrote : Wrote plan 0 (planWords (planOf s)) r q) where
     -- accepted
-    pub planned-both : (count : ℕ) → r ≡ Next count → analysedOf (Planned count) made q ≡ analyse words map plan
-    unfolding _then_ ifGiven mapFits planFits answerOf
-    planned-both count e =
+    pub planned-both : (count : ℕ) → r ≡ Next count → (said : Outcome) → answerOf said ≡ given (planned s count) → analysedOf said made q ≡ analyse words map plan
+    unfolding _then_ ifGiven mapFits planFits
+    planned-both count e said is-said =
         let f = read-next (rw e at wrote) in
         let z : 0 + length (planWords (planOf s)) ≡ length (planWords (planOf s)) = omega arith in
-        rw (is-read, is-made, f .words, f .next, z, le-ltb _ _ room, le-ltb (length plan) (length (planWords (planOf s))) (omega (arith, f .fit)))
+        rw (is-said, is-read, is-made, f .words, f .next, z, le-ltb _ _ room, le-ltb (length plan) (length (planWords (planOf s))) (omega (arith, f .fit)))
 
     -- 14
     pub plan-short : r ≡ Full → (zeros : List ℕ) → zeros ≡ replicate (length q) 0 → length q ≡ length plan

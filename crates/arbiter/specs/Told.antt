@@ -8,16 +8,21 @@ use Rattle.model.specs.Analysis.{Analysed}
 use Rattle.model.specs.Broker.{Served}
 use Rattle.model.specs.Route.{Routed}
 use Rattle.model.specs.Clean.{Cleaned}
-use Rattle.model.specs.Told.{Told, tellAnalysis, tellRoute, tellCleaned}
+use Rattle.model.specs.Told.{Told, AnalysisTold, tellAnalysis, tellRoute, tellCleaned}
 use Rattle.arbiter.specs.declared.answers.Answer.{Answer}
+use Rattle.arbiter.specs.declared.answers.Analysis.{Analysis}
 
 -- the struct of three numbers
 abbrev pub structOf : Told → Answer
 structOf t = record { kind = t .kind; refusal = t .refusal; value = t .value }
 
+-- the struct of an analysis: that one, and the quotient and the remainder behind it
+abbrev pub analysisOf : AnalysisTold → Analysis
+analysisOf t = record { answer = structOf (t .answer); quotient = t .quotient; remainder = t .remainder }
+
 -- the answer, and both slices afterwards, of an analysis
-abbrev pub ToldAnalysis : Answer → List ℕ → List ℕ → Analysed → Type 0
-ToldAnalysis r map plan a = (r ≡ structOf (tellAnalysis (a .answer))) × (map ≡ a .map) × (plan ≡ a .plan)
+abbrev pub ToldAnalysis : Analysis → List ℕ → List ℕ → Analysed → Type 0
+ToldAnalysis r map plan a = (r ≡ analysisOf (tellAnalysis (a .answer))) × (map ≡ a .map) × (plan ≡ a .plan)
 
 -- the answer, and the record afterwards, of a bid or an again
 abbrev pub ToldServed : {A : Type 0} → (model.Answer A → Told) → Answer → Record → Served A → Type 0

@@ -10,7 +10,7 @@ ghost use Rattle.broker.specs.Says.{bidOf, againOf};
 ghost use Rattle.route.specs.Says as route-says;
 ghost use Rattle.plan_reader.specs.Says as plan-says;
 ghost use Rattle.cleaner.specs.Says as clean-says;
-ghost use Rattle.arbiter.specs.Told.{structOf};
+ghost use Rattle.arbiter.specs.Told.{structOf, analysisOf};
 use analysis::Outcome;
 use broker::AgainAnswer;
 use broker::BidAnswer;
@@ -57,6 +57,15 @@ pub struct Answer {
     pub value: u64,
 }
 
+// What an analysis answers: twenty-four bytes without a gap. Beside the answer stand the quotient and the remainder of 1,000 times the unsafe states divided by the
+// permitted ones; both are 0 in a refused one.
+#[repr(C)]
+pub struct Analysis {
+    pub answer: Answer,
+    pub quotient: u32,
+    pub remainder: u32,
+}
+
 fn plain(kind: u32) -> Answer
     ensures { λ r. ⌜ r ≡ record { kind = kind; refusal = 0; value = 0 } ⌝ }
 {
@@ -98,12 +107,30 @@ pub(crate) fn of_reading(reading: Reading) -> Answer
     }
 }
 
-pub(crate) fn of_outcome(outcome: Outcome) -> Answer
-    ensures { λ r. ⌜ r ≡ structOf (tellAnalysis (analysis-says.answerOf outcome)) ⌝ }
+pub(crate) fn of_outcome(outcome: Outcome) -> Analysis
+    ensures { λ r. ⌜ r ≡ analysisOf (tellAnalysis (analysis-says.answerOf outcome)) ⌝ }
 {
     match outcome {
-        Outcome::Planned { words } => valued(PLANNED, words),
-        Outcome::Refused { number, place } => refuse(number, place),
+        Outcome::Planned {
+            words,
+            quotient,
+            remainder,
+        } => {
+            let answer = valued(PLANNED, words);
+            Analysis {
+                answer: answer,
+                quotient: quotient,
+                remainder: remainder,
+            }
+        }
+        Outcome::Refused { number, place } => {
+            let answer = refuse(number, place);
+            Analysis {
+                answer: answer,
+                quotient: 0,
+                remainder: 0,
+            }
+        }
     }
 }
 

@@ -13,6 +13,7 @@ ghost use Rattle.model.specs.Clean as model-clean;
 ghost use Rattle.model.specs.Told.{VERSION, tellReading, tellBid, tellAgain, tellLocation};
 ghost use Rattle.records.specs.Says.{recordOf};
 ghost use Rattle.arbiter.specs.Told.{structOf, ToldAnalysis, ToldServed, ToldRoute, ToldCleaned};
+use answers::Analysis;
 use answers::Answer;
 use records::Record;
 
@@ -40,7 +41,7 @@ pub extern "C" fn arbiter_read(set: &[u32]) -> Answer
 
 // The analysis of a set into a map and a plan.
 #[no_mangle]
-pub extern "C" fn arbiter_analyse(set: &[u32], map: &mut [u8], plan: &mut [u32]) -> Answer
+pub extern "C" fn arbiter_analyse(set: &[u32], map: &mut [u8], plan: &mut [u32]) -> Analysis
     ensures { λ r. ⌜ ToldAnalysis r (now (map .exit)) (now (plan .exit)) (analyse (now (set .entry)) (now (map .entry)) (now (plan .entry))) ⌝ }
 {
     answers::of_outcome(analysis::analyse(set, map, plan))

@@ -32,9 +32,20 @@ pub fn refusal(number: u8, place: usize) {
 // What an analysis answered.
 pub fn outcome(said: Outcome) {
     match said {
-        Outcome::Planned { words } => named(b"planned ", words),
+        Outcome::Planned {
+            words,
+            quotient,
+            remainder,
+        } => planned(words, quotient, remainder),
         Outcome::Refused { number, place } => refusal(number, place),
     }
+}
+
+// An accepted analysis: the plan's words, and the parts per thousand.
+fn planned(words: usize, quotient: u32, remainder: u32) {
+    named(b"planned ", words);
+    named(b", unsafe ", quotient as usize);
+    named(b"/1000 rest ", remainder as usize);
 }
 
 // What a bid answered.

@@ -17,7 +17,7 @@ use Rattle.model.specs.Hold.{permitted}
 use Rattle.model.specs.Box.{covered}
 use Rattle.model.specs.Forbidden.{forbiddenBoxes}
 use Rattle.model.specs.Plan.{planOf, FORBIDDEN-BOX, UNSAFE-BOX, planWords, unsafeOf}
-use Rattle.model.specs.Analysis.{analyse}
+use Rattle.model.specs.Analysis.{Planned, analyse}
 use Rattle.model.specs.StoredPlan.{Location, in-forbidden, in-unsafe, in-neither, locationOf, locate}
 use Rattle.model.proofs.Bools.{by-bool, true-not-false}
 use Rattle.model.proofs.Answers.{given-value}
@@ -64,7 +64,10 @@ module _ (b : ℕ) where
   neither-by in-neither h e = refl
 
 -- ---- an accepted analysis
-module _ (words mapped plan : List ℕ) (k : ℕ) (e : analyse words mapped plan .answer ≡ given k) where
+module _ (words mapped plan : List ℕ) (a : Planned) (e : analyse words mapped plan .answer ≡ given a) where
+  abbrev k : ℕ
+  k = a .words
+
   abbrev s : Set
   s = setIn words
 
@@ -76,13 +79,13 @@ module _ (words mapped plan : List ℕ) (k : ℕ) (e : analyse words mapped plan
   ws = stored words mapped plan k
 
   well-formed : WellFormed s
-  well-formed = read-sound words s (accepted-made words mapped plan k e .0 .is-read) .1
+  well-formed = read-sound words s (accepted-made words mapped plan a e .0 .is-read) .1
 
   -- it has the words of the set's plan
   stored-is : ws ≡ planWords (planOf s)
   stored-is =
-      let r = accepted-made words mapped plan k e in
-      ap (take k) (r .1) ∙ take-at (planWords (planOf s)) (drop (length (planWords (planOf s))) plan) k (sym (r .3))
+      let r = accepted-made words mapped plan a e in
+      ap (take k) (r .1) ∙ take-at (planWords (planOf s)) (drop (length (planWords (planOf s))) plan) k (sym (ap (λ (p : Planned). p .words) (r .3)))
 
   -- which are accepted
   is-accepted : Accepted ws n
@@ -104,11 +107,11 @@ module _ (words mapped plan : List ℕ) (k : ℕ) (e : analyse words mapped plan
     own = byteOf words mapped plan k y
 
     bytes : Bytes s (analyse words mapped plan .map)
-    bytes = demand3 .accepted words mapped plan k e .0 .bytes
+    bytes = demand3 .accepted words mapped plan a e .0 .bytes
 
     -- a permitted state lies in an unsafe box exactly if the end can't be reached
     unsafe-box : permitted s y ≡ true → (covered (unsafeOf s) y ≡ true) ↔ (ReachesEnd s y → ⊥)
-    unsafe-box = rw (plan-left words mapped plan k e) at (demand3 .accepted words mapped plan k e .1 .unsafe-box y g)
+    unsafe-box = rw (plan-left words mapped plan a e) at (demand3 .accepted words mapped plan a e .1 .unsafe-box y g)
 
     forbidden-is : someOf n FORBIDDEN-BOX y ws ≡ covered (forbiddenBoxes s) y
     forbidden-is = rw stored-is (forbidden-some n y (planOf s) (plan-fits s well-formed))

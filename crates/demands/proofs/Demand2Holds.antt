@@ -15,7 +15,7 @@ use Rattle.model.specs.Hold.{permitted}
 use Rattle.model.specs.Run.{Dead}
 use Rattle.model.specs.Reach.{reachedAt}
 use Rattle.model.specs.Plan.{keep, deadOf, reachedOf, unreachedOf, planOf, planWords, planFrom}
-use Rattle.model.specs.Analysis.{analyse}
+use Rattle.model.specs.Analysis.{Planned, analyse}
 use Rattle.model.proofs.Bools.{by-bool, true-not-false}
 use Rattle.model.proofs.Ranks.{rank-stateAt, stateAt-grid}
 use Rattle.model.proofs.StartOpen.{start-permitted}
@@ -99,10 +99,10 @@ module _ (s : Set) where
   }
 
 -- an accepted analysis leaves the plan of the set that the words declare
-pub plan-left : (words map plan : List ℕ) (n : ℕ) → analyse words map plan .answer ≡ given n
+pub plan-left : (words map plan : List ℕ) (p : Planned) → analyse words map plan .answer ≡ given p
     → planFrom (analyse words map plan .plan) ≡ planOf (setIn words)
-plan-left words map plan n e =
-    let r = accepted-made words map plan n e in
+plan-left words map plan p e =
+    let r = accepted-made words map plan p e in
     let s = setIn words in
     ap planFrom (r .1) ∙ plan-of-back s (read-sound words s (r .0 .is-read) .1) (drop (length (planWords (planOf s))) plan)
 
@@ -114,5 +114,5 @@ demand2 = record {
   layout = layout-exact present;
   former-layout = layout-exact former;
   of-set = plan-exact;
-  plan = λ words map plan n e. rw (plan-left words map plan n e) (plan-exact (setIn words));
+  plan = λ words map plan p e. rw (plan-left words map plan p e) (plan-exact (setIn words));
 }

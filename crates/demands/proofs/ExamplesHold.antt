@@ -2,7 +2,7 @@
 use mathlib.Core.Path.{refl}
 use Rattle.model.specs.Below.{any, lowest, howMany, tabulate, maximum}
 use Rattle.model.specs.Set.{deviceOf, claims, claimed, size}
-use Rattle.model.specs.Read.{lastTask, addAction, heldAfter, note, outOfOrder, fieldAllowed, tooMany, fault, readFrom, readWords, close, readBy}
+use Rattle.model.specs.Read.{lastTask, addAction, heldAfter, note, outOfOrder, fieldAllowed, tooMany, fault, readFrom, readWords, close, readBy, setOf}
 use Rattle.model.specs.State.{isEnd, sum, weight, rank, stateAt}
 use Rattle.model.specs.Hold.{heldTo, holdsFrom, holding, held as unitsHeld, permitted}
 use Rattle.model.specs.Box.{inside, covered, firstBox}
@@ -15,14 +15,16 @@ use Rattle.model.specs.Clean.{keptFrom, renamed, cleanFits}
 use Rattle.model.specs.Plan.{ranksFrom, keep, sideWords, forbiddenWords, unsafeWords, planWords}
 use Rattle.model.specs.Answer.{_then_, ifGiven}
 use Rattle.model.specs.Record.{misplaced, mapFits, placed}
+use Rattle.model.specs.PerThousand.{permittedStates, unsafeStates}
 use Rattle.model.specs.Analysis.{planFits}
 use Rattle.model.specs.Broker.{bidByte, bidAnswer, isGranted, afterCall, afterList}
 use Rattle.model.specs.Route.{stepFrom, walk, walked, routeFrom, routeSteps, routeFits}
 use Rattle.demands.specs.Examples.{answers, Examples}
 
 pub examples-hold : Examples
-unfolding any tabulate maximum deviceOf size lastTask addAction heldAfter note outOfOrder fieldAllowed tooMany fault readFrom readWords close readBy claims claimed lowest isEnd sum weight rank stateAt heldTo holdsFrom holding unitsHeld permitted inside covered firstBox choose prefixed sidesOf boxesOf boxesOfAll deviceBoxes forbiddenFrom forbidden stepsOnto byte lastBytes bytes steppedOnto mark firstMarks getsBox blockerLow unsafeBox lastUnsafe unsafeBoxes withEnd ranksFrom keep sideWords forbiddenWords unsafeWords planWords _then_ ifGiven mapFits planFits misplaced placed bidByte bidAnswer isGranted afterCall afterList stepFrom walk walked routeFrom routeSteps routeFits cleanFits keptFrom howMany renamed taskWords body actionWord answers
+unfolding any tabulate maximum deviceOf size lastTask addAction heldAfter note outOfOrder fieldAllowed tooMany fault readFrom readWords close readBy setOf claims claimed lowest isEnd sum weight rank stateAt heldTo holdsFrom holding unitsHeld permitted inside covered firstBox choose prefixed sidesOf boxesOf boxesOfAll deviceBoxes forbiddenFrom forbidden stepsOnto byte lastBytes bytes steppedOnto mark firstMarks getsBox blockerLow unsafeBox lastUnsafe unsafeBoxes withEnd ranksFrom keep permittedStates unsafeStates sideWords forbiddenWords unsafeWords planWords _then_ ifGiven mapFits planFits misplaced placed bidByte bidAnswer isGranted afterCall afterList stepFrom walk walked routeFrom routeSteps routeFits cleanFits keptFrom howMany renamed taskWords body actionWord answers
 examples-hold = record {
+  a-states = (refl, refl);
   a-answer = refl;
   a-plan = refl;
   b-answers = refl;
@@ -33,8 +35,14 @@ examples-hold = record {
   d-dead = refl;
   d-plan = refl;
   d-counts = refl;
+  d-states = (refl, refl);
+  d-answer = refl;
+  d-longer = refl;
+  d-shorter = refl;
   e-counts = refl;
   e-unsafe = refl;
+  e-states = (refl, refl);
+  e-answer = refl;
   f-plan = refl;
   g-plan = refl;
   g-refused = refl;
@@ -47,4 +55,6 @@ examples-hold = record {
   l-answer = refl;
   l-number = refl;
   r-plan = refl;
+  r-states = (refl, refl);
+  r-answer = refl;
 }

@@ -1,5 +1,5 @@
 -- What a task holds, its holds, the holders of a device and the permitted states are as SCOPE.md, "States and holds", says.
-use Prim.Native.Nat.{ℕ, zero, suc, _+_}
+use Prim.Native.Nat.{ℕ, suc, _+_}
 use native.Mathlib.Omega.{arith}
 use mathlib.Core.Path.{_≡_, refl}
 use mathlib.Core.Bool.{Bool, false, cond}
@@ -10,19 +10,19 @@ use Rattle.model.specs.Set.{Task, lengths, taskAt, at, size}
 use Rattle.model.specs.State.{State, InGrid, isEnd, weight, stateAt}
 use Rattle.model.specs.Hold.{heldTo, holdsFrom, holds, holding, held, permitted}
 use Rattle.model.specs.Map.{stepsOnto, byte, lastBytes, bytes}
+use Rattle.model.proofs.Counts.{many-first}
 use Rattle.model.proofs.Ranks.{tail-grid}
 use Rattle.model.proofs.HoldWalk.{holds-walk}
 use Rattle.model.proofs.Permitted.{permitted-intro, permitted-fits}
 use Rattle.demands.specs.Terms.{howMany}
 use Rattle.demands.specs.Holds.{HoldsRight}
+use Rattle.demands.proofs.HowMany.{same-count}
 use Rattle.demands.proofs.StillHeldSteps.{walk-still}
 use Rattle.demands.proofs.HoldList.{holds-rise, holds-listed}
 
 -- counted from the other end
 count-first : (n : ℕ) (f : ℕ → Bool) → howMany (suc n) f ≡ cond (f 0) 1 0 + howMany n (λ t. f (suc t))
-unfolding howMany
-count-first zero f = refl
-count-first (suc n) f = omega (arith, count-first n f)
+count-first n f = omega (arith, many-first n f, same-count (suc n) f, same-count n (λ t. f (suc t)))
 
 count-holders : (d : ℕ) (tasks : List Task) (x : State) → InGrid (lengths tasks) x
     → held d tasks x ≡ howMany (length tasks) (λ t. holding (holds d (getD tasks t [])) (at x t))

@@ -1,11 +1,11 @@
 -- A host hears what was told.
 use Prim.Native.Nat.{ℕ}
 use mathlib.Core.Path.{_≡_, refl, sym, ap, _∙_}
-use Rattle.model.specs.Answer.{Answer, given, refused}
+use Rattle.model.specs.Answer.{Answer, given, refused, ifGiven}
 use Rattle.model.specs.Broker.{Bid, granted, finished, busy, held, Again, restarted}
+use Rattle.model.specs.Analysis.{Planned}
 use Rattle.model.specs.StoredPlan.{Location, in-forbidden, in-unsafe, in-neither}
 use Rattle.model.specs.Told.{
-  Told,
   tell,
   bidNumbers,
   locationNumbers,
@@ -18,6 +18,7 @@ use Rattle.model.specs.Told.{
   hear,
   bidHeard,
   locationHeard,
+  hearAnalysis,
   hearNumber,
   hearBid,
   hearAgain,
@@ -25,9 +26,9 @@ use Rattle.model.specs.Told.{
 }
 use Rattle.demands.specs.Hosts.{Hosts}
 
-hears-analysis : (a : Answer ℕ) → hearNumber (tellAnalysis a) ≡ a
-unfolding tell hear
-hears-analysis (given n) = refl
+hears-analysis : (a : Answer Planned) → hearAnalysis (tellAnalysis a) ≡ a
+unfolding tell ifGiven hear
+hears-analysis (given p) = refl
 hears-analysis (refused n p) = refl
 
 hears-route : (a : Answer ℕ) → hearNumber (tellRoute a) ≡ a
@@ -61,14 +62,14 @@ hears-location (given in-neither) = refl
 hears-location (refused n p) = refl
 
 -- what is heard as it was told is told apart
-apart : {A : Type 0} (tells : A → Told) (hears : Told → A) → ((a : A) → hears (tells a) ≡ a) → (a b : A) → tells a ≡ tells b → a ≡ b
+apart : {A T : Type 0} (tells : A → T) (hears : T → A) → ((a : A) → hears (tells a) ≡ a) → (a b : A) → tells a ≡ tells b → a ≡ b
 apart tells hears same a b e = sym (same a) ∙ ap hears e ∙ same b
 
 pub hosts-hold : Hosts
-unfolding tell bidNumbers locationNumbers
+unfolding tell ifGiven bidNumbers locationNumbers
 hosts-hold = record {
   of-refused = λ n p. (refl, refl, refl, refl, refl, refl);
-  of-planned = λ n. refl;
+  of-planned = λ p. refl;
   of-routed = λ n. refl;
   of-granted = refl;
   of-finished = refl;
@@ -83,7 +84,7 @@ hosts-hold = record {
   of-faulty = λ n p. refl;
   heard-told = (hears-analysis, hears-route, hears-bid, hears-again, hears-location, hears-cleaned);
   told-apart = (
-    apart tellAnalysis hearNumber hears-analysis,
+    apart tellAnalysis hearAnalysis hears-analysis,
     apart tellRoute hearNumber hears-route,
     apart tellBid hearBid hears-bid,
     apart tellAgain hearAgain hears-again,

@@ -1,6 +1,7 @@
 pub mod ExamplesHold
 pub mod PhilosophersHold
 pub mod PlansHold
+pub mod HowMany
 pub mod StillHeldSteps
 pub mod PlacesHold
 pub mod ClaimedDevices
@@ -41,6 +42,8 @@ pub mod PlanFaultsHold
 pub mod LiesHold
 pub mod AgreesHolds
 pub mod StoredPlansHold
+pub mod NumberedStates
+pub mod PerThousandHolds
 pub mod RefusalsHold
 pub mod CleaningHolds
 pub mod HostsHold

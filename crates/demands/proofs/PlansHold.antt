@@ -1,7 +1,7 @@
--- The seven plans hold, by computing the definitions.
+-- The six plans and the one answer hold, by computing the definitions.
 use mathlib.Core.Path.{refl}
 use Rattle.model.specs.Below.{any, lowest, tabulate, maximum}
-use Rattle.model.specs.Set.{claims, claimed, size}
+use Rattle.model.specs.Set.{deviceOf, claims, claimed, size}
 use Rattle.model.specs.Read.{lastTask, addAction, heldAfter, note, outOfOrder, fieldAllowed, tooMany, fault, readFrom, readWords, close, readBy}
 use Rattle.model.specs.State.{isEnd, weight, stateAt}
 use Rattle.model.specs.Hold.{heldTo, holdsFrom, holding, held as unitsHeld, permitted}
@@ -10,8 +10,9 @@ use Rattle.model.specs.Forbidden.{choose, prefixed, sidesOf, boxesOf, boxesOfAl
 use Rattle.model.specs.Map.{stepsOnto, byte, lastBytes, bytes}
 use Rattle.model.specs.Reach.{steppedOnto, mark, firstMarks}
 use Rattle.model.specs.UnsafeBoxes.{getsBox, blockerLow, unsafeBox, lastUnsafe, unsafeBoxes}
-use Rattle.model.specs.Layout.{withEnd}
+use Rattle.model.specs.Layout.{actionWord, taskWords, body, withEnd}
 use Rattle.model.specs.Plan.{ranksFrom, keep, sideWords, forbiddenWords, unsafeWords, planWords}
+use Rattle.model.specs.PerThousand.{permittedStates, unsafeStates}
 use Rattle.model.specs.Answer.{_then_, ifGiven}
 use Rattle.model.specs.Record.{mapFits}
 use Rattle.model.specs.Analysis.{planFits}
@@ -19,5 +20,5 @@ use Rattle.demands.specs.Terms.{times}
 use Rattle.demands.specs.Plans.{Plans}
 
 pub plans-hold : Plans
-unfolding any tabulate maximum size lastTask addAction heldAfter note outOfOrder fieldAllowed tooMany fault readFrom readWords close readBy claims claimed lowest isEnd weight stateAt heldTo holdsFrom holding unitsHeld permitted inside covered firstBox choose prefixed sidesOf boxesOf boxesOfAll deviceBoxes forbiddenFrom forbidden stepsOnto byte lastBytes bytes steppedOnto mark firstMarks getsBox blockerLow unsafeBox lastUnsafe unsafeBoxes withEnd ranksFrom keep sideWords forbiddenWords unsafeWords planWords _then_ ifGiven mapFits planFits times
-plans-hold = record { m-plan = refl; n-plan = refl; o-plan = refl; p-plan = refl; q-plan = refl; u-plan = refl }
+unfolding any tabulate maximum deviceOf size lastTask addAction heldAfter note outOfOrder fieldAllowed tooMany fault readFrom readWords close readBy claims claimed lowest isEnd weight stateAt heldTo holdsFrom holding unitsHeld permitted inside covered firstBox choose prefixed sidesOf boxesOf boxesOfAll deviceBoxes forbiddenFrom forbidden stepsOnto byte lastBytes bytes steppedOnto mark firstMarks getsBox blockerLow unsafeBox lastUnsafe unsafeBoxes actionWord taskWords body withEnd ranksFrom keep permittedStates unsafeStates sideWords forbiddenWords unsafeWords planWords _then_ ifGiven mapFits planFits times
+plans-hold = record { m-plan = refl; n-plan = refl; o-plan = refl; p-plan = refl; q-plan = refl; u-plan = refl; v-answer = refl }

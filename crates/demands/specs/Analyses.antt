@@ -8,7 +8,7 @@ use Rattle.model.specs.Set.{Set, lengthsOf, size}
 use Rattle.model.specs.Box.{Box}
 use Rattle.model.specs.Map.{mapOf}
 use Rattle.model.specs.Plan.{Plan, planOf, planWords}
-use Rattle.model.specs.Analysis.{analyse}
+use Rattle.model.specs.Analysis.{planned, analyse}
 use Rattle.model.specs.Read.{read}
 
 -- one word a task of kind 8, from task t on: bits 23 to 16 task, 15 to 8 lowest, 7 to 0 highest position
@@ -42,10 +42,10 @@ pub record OfAnalysis (words : List ℕ) (s : Set) : Type 0 where
   pub plan-short : (map plan : List ℕ) → size (lengthsOf s) ≤ length map → length plan < planLength s
       → analyse words map plan
       ≡ record { answer = refused 14 (length plan); map = mapOf s ++ drop (size (lengthsOf s)) map; plan = replicate (length plan) 0 }
-  -- else it is accepted, with the plan's length; beyond map and plan the slices keep what they had
+  -- else it is accepted, with the plan's length and the set's parts per thousand, of which `PerThousand` says more; beyond map and plan the slices keep what they had
   pub made : (map plan : List ℕ) → size (lengthsOf s) ≤ length map → planLength s ≤ length plan
       → analyse words map plan
-      ≡ record { answer = given (planLength s); map = mapOf s ++ drop (size (lengthsOf s)) map; plan = planWords (planOf s) ++ drop (planLength s) plan }
+      ≡ record { answer = given (planned s (planLength s)); map = mapOf s ++ drop (size (lengthsOf s)) map; plan = planWords (planOf s) ++ drop (planLength s) plan }
 
 pub record Analyses : Type 0 where
   -- the words of a plan, and END as in a set

@@ -15,7 +15,7 @@ use Rattle.model.specs.Hold.{Overfull}
 use Rattle.model.specs.Box.{covered}
 use Rattle.model.specs.Forbidden.{forbidden}
 use Rattle.model.specs.Plan.{unsafeOf, Plan, planOf, planFrom}
-use Rattle.model.specs.Analysis.{analyse}
+use Rattle.model.specs.Analysis.{Planned, analyse}
 use Rattle.demands.specs.Terms.{Ordered}
 use Rattle.demands.specs.MapDemand.{IsDead, IsReached}
 
@@ -61,5 +61,5 @@ pub record Demand2 : Type 0 where
   -- of the plan of every set
   pub of-set : (s : Set) → PlanExact s (planOf s)
   -- where an analysis is accepted, of the plan read back from the plan slice as it leaves it, whatever the slices held and however long they are
-  pub plan : (words mapped plan : List ℕ) (n : ℕ) → analyse words mapped plan .answer ≡ given n
+  pub plan : (words mapped plan : List ℕ) (p : Planned) → analyse words mapped plan .answer ≡ given p
       → PlanExact (setIn words) (planFrom (analyse words mapped plan .plan))

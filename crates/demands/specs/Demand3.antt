@@ -13,7 +13,7 @@ use Rattle.model.specs.State.{State, sum, InGrid}
 use Rattle.model.specs.Hold.{permitted}
 use Rattle.model.specs.Box.{covered}
 use Rattle.model.specs.Plan.{Plan, planOf, planFrom}
-use Rattle.model.specs.Analysis.{analyse}
+use Rattle.model.specs.Analysis.{Planned, analyse}
 use Rattle.model.specs.Record.{fresh, stateIn}
 use Rattle.model.specs.Broker.{Call, afterCalls, grantCount, IsRound, roundCalls}
 use Rattle.demands.specs.MapDemand.{ReachesEnd, IsOpen, Bytes}
@@ -47,7 +47,7 @@ pub record OfPlan (words m : List ℕ) (p : Plan) : Type 0 where
 pub record Demand3 : Type 0 where
   -- an analysis of a set is accepted exactly if its map and plan have room in the slices, as `Analyses` says: so nothing below is said of no set
   pub answers : (words : List ℕ) (s : Set) → read words ≡ given s → OfAnalysis words s
-  pub accepted : (words map plan : List ℕ) (n : ℕ) → analyse words map plan .answer ≡ given n
+  pub accepted : (words map plan : List ℕ) (p : Planned) → analyse words map plan .answer ≡ given p
       → OfMap words (analyse words map plan .map) × OfPlan words (analyse words map plan .map) (planFrom (analyse words map plan .plan))
   -- where the plan has no room, the map is the same, and what is said of the plan holds of the set's, which is not written
   pub plan-too-short : (words map plan : List ℕ) (place : ℕ) → analyse words map plan .answer ≡ refused 14 place

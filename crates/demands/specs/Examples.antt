@@ -5,10 +5,12 @@ use mathlib.Core.List.{List, [], _∷_, map}
 use lib.ListN.{length, replicate}
 use Rattle.model.specs.Answer.{Answer, given, refused}
 use Rattle.model.specs.Set.{Set, claim, release}
-use Rattle.model.specs.Read.{read}
+use Rattle.model.specs.Layout.{encode}
+use Rattle.model.specs.Read.{read, setIn}
 use Rattle.model.specs.Clean.{clean}
 use Rattle.model.specs.Map.{mapOf}
 use Rattle.model.specs.Plan.{ranksFrom, unsafeOf, deadOf, planOf, planWords}
+use Rattle.model.specs.PerThousand.{permittedStates, unsafeStates}
 use Rattle.model.specs.Analysis.{Analysed, analyse}
 use Rattle.model.specs.Record.{Record, fresh}
 use Rattle.model.specs.Broker.{granted, busy, held, bids, bid, afterCalls, Bid}
@@ -71,8 +73,9 @@ r =
 
 -- SCOPE.md, "Desk examples", a to l and r
 pub record Examples : Type 0 where
-  -- a's plan, word for word
-  pub a-answer : analysed a 25 11 .answer ≡ given 11
+  -- a's plan, word for word; 1 of its 20 permitted states is unsafe
+  pub a-states : (unsafeStates (setIn a) ≡ 1) × (permittedStates (setIn a) ≡ 20)
+  pub a-answer : analysed a 25 11 .answer ≡ given (record { words = 11; quotient = 50; remainder = 0 })
   pub a-plan : analysed a 25 11 .plan
       ≡ 0x60000000 ∷ 0x80000103 ∷ 0x80010202 ∷ 0x60000001 ∷ 0x80000202 ∷ 0x80010103
       ∷ 0x70000000 ∷ 0x80000101 ∷ 0x80010101 ∷ 0x90000006 ∷ 0x5000000A ∷ []
@@ -89,9 +92,16 @@ pub record Examples : Type 0 where
       ≡ 0x60000000 ∷ 0x80000205 ∷ 0x80010404 ∷ 0x60000001 ∷ 0x80000404 ∷ 0x80010105 ∷ 0x60000002 ∷ 0x80000102 ∷ 0x80010202
       ∷ 0x70000000 ∷ 0x80000203 ∷ 0x80010103 ∷ 0x70000000 ∷ 0x80000101 ∷ 0x80010101 ∷ 0x90000018 ∷ 0x50000010 ∷ []
   pub d-counts : map (count d) (0 ∷ 1 ∷ 2 ∷ 3 ∷ []) ≡ 33 ∷ 10 ∷ 5 ∷ 1 ∷ []
+  -- so 6 of its 39 permitted states are unsafe: 6,000 is 153 times 39 and 33; in longer slices too, and not where the plan has no room
+  pub d-states : (unsafeStates d ≡ 6) × (permittedStates d ≡ 39)
+  pub d-answer : analysed (encode d) 49 17 .answer ≡ given (record { words = 17; quotient = 153; remainder = 33 })
+  pub d-longer : analysed (encode d) 60 20 .answer ≡ given (record { words = 17; quotient = 153; remainder = 33 })
+  pub d-shorter : analysed (encode d) 49 16 .answer ≡ refused 14 16
   -- e has one forbidden state and no unsafe one
   pub e-counts : map (count e) (0 ∷ 1 ∷ 2 ∷ 3 ∷ []) ≡ 26 ∷ 1 ∷ 0 ∷ 0 ∷ []
   pub e-unsafe : unsafeOf e ≡ []
+  pub e-states : (unsafeStates e ≡ 0) × (permittedStates e ≡ 26)
+  pub e-answer : analysed (encode e) 27 5 .answer ≡ given (record { words = 5; quotient = 0; remainder = 0 })
   -- f's plan is END alone
   pub f-plan : analysed (0x20000000 ∷ 0x50000001 ∷ []) 1 1 .plan ≡ 0x50000000 ∷ []
   -- g: a device that one task claims, and a capacity of 9; the set that it was before has a device that no task claims, and is cleaned to one without devices
@@ -111,3 +121,6 @@ pub record Examples : Type 0 where
   pub r-plan : analysed r 63 18 .plan
       ≡ 0x60000000 ∷ 0x80000205 ∷ 0x80010202 ∷ 0x60000001 ∷ 0x80000103 ∷ 0x80010105 ∷ 0x60000001 ∷ 0x80000506 ∷ 0x80010105
       ∷ 0x60000002 ∷ 0x80000307 ∷ 0x80010404 ∷ 0x70000000 ∷ 0x80000304 ∷ 0x80010103 ∷ 0x9000001D ∷ 0xA000001F ∷ 0x50000011 ∷ []
+  -- 2 of r's 35 permitted states are unsafe, one of them not reached
+  pub r-states : (unsafeStates (setIn r) ≡ 2) × (permittedStates (setIn r) ≡ 35)
+  pub r-answer : analysed r 63 18 .answer ≡ given (record { words = 18; quotient = 57; remainder = 5 })

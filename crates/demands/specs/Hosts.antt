@@ -4,24 +4,44 @@ use mathlib.Core.Path.{_≡_}
 use Rattle.model.specs.Answer.{Answer, given, refused}
 use Rattle.model.specs.Set.{Set, lengthsOf, size}
 use Rattle.model.specs.Broker.{Bid, granted, finished, busy, held, Again, restarted}
+use Rattle.model.specs.Analysis.{Planned}
 use Rattle.model.specs.StoredPlan.{Location, in-forbidden, in-unsafe, in-neither}
-use Rattle.model.specs.Told.{Told, tellReading, tellAnalysis, tellRoute, tellBid, tellAgain, tellLocation, tellCleaned, hearNumber, hearBid, hearAgain, hearLocation}
+use Rattle.model.specs.Told.{
+  Told,
+  AnalysisTold,
+  tellReading,
+  tellAnalysis,
+  tellRoute,
+  tellBid,
+  tellAgain,
+  tellLocation,
+  tellCleaned,
+  hearAnalysis,
+  hearNumber,
+  hearBid,
+  hearAgain,
+  hearLocation,
+}
 
 -- a kind, a refusal's number and a value
 abbrev pub numbers : ℕ → ℕ → ℕ → Told
 numbers k n v = record { kind = k; refusal = n; value = v }
 
+-- of an analysis, with the quotient and the remainder beside them
+abbrev pub analysisNumbers : ℕ → ℕ → ℕ → ℕ → ℕ → AnalysisTold
+analysisNumbers k n v q r = record { answer = numbers k n v; quotient = q; remainder = r }
+
 pub record Hosts : Type 0 where
-  -- a refusal of any call: kind 0, its number and its place; an answer of zeros is no call's, since no refusal has number 0 (`Refusals`)
+  -- a refusal of any call: kind 0, its number and its place, and of an analysis 0 and 0; an answer of zeros is no call's, since no refusal has number 0 (`Refusals`)
   pub of-refused : (n p : ℕ)
-      → (tellAnalysis (refused n p) ≡ numbers 0 n p)
+      → (tellAnalysis (refused n p) ≡ analysisNumbers 0 n p 0 0)
       × (tellRoute (refused n p) ≡ numbers 0 n p)
       × (tellBid (refused n p) ≡ numbers 0 n p)
       × (tellAgain (refused n p) ≡ numbers 0 n p)
       × (tellLocation (refused n p) ≡ numbers 0 n p)
       × (tellCleaned (refused n p) ≡ numbers 0 n p)
   -- a value's kind is one call's alone
-  pub of-planned : (n : ℕ) → tellAnalysis (given n) ≡ numbers 2 0 n
+  pub of-planned : (p : Planned) → tellAnalysis (given p) ≡ analysisNumbers 2 0 (p .words) (p .quotient) (p .remainder)
   pub of-routed : (n : ℕ) → tellRoute (given n) ≡ numbers 3 0 n
   pub of-granted : tellBid (given granted) ≡ numbers 4 0 0
   pub of-finished : tellBid (given finished) ≡ numbers 5 0 0
@@ -36,13 +56,13 @@ pub record Hosts : Type 0 where
   pub of-accepted : (s : Set) → tellReading (given s) ≡ numbers 1 0 (size (lengthsOf s))
   pub of-faulty : (n p : ℕ) → tellReading (refused n p) ≡ numbers 0 n p
   -- a host hears every answer of an analysis, a route, a bid, an again, a question and the cleaner as it was given, so no two of them are told alike
-  pub heard-told : ((a : Answer ℕ) → hearNumber (tellAnalysis a) ≡ a)
+  pub heard-told : ((a : Answer Planned) → hearAnalysis (tellAnalysis a) ≡ a)
       × ((a : Answer ℕ) → hearNumber (tellRoute a) ≡ a)
       × ((a : Answer Bid) → hearBid (tellBid a) ≡ a)
       × ((a : Answer Again) → hearAgain (tellAgain a) ≡ a)
       × ((a : Answer Location) → hearLocation (tellLocation a) ≡ a)
       × ((a : Answer ℕ) → hearNumber (tellCleaned a) ≡ a)
-  pub told-apart : ((a b : Answer ℕ) → tellAnalysis a ≡ tellAnalysis b → a ≡ b)
+  pub told-apart : ((a b : Answer Planned) → tellAnalysis a ≡ tellAnalysis b → a ≡ b)
       × ((a b : Answer ℕ) → tellRoute a ≡ tellRoute b → a ≡ b)
       × ((a b : Answer Bid) → tellBid a ≡ tellBid b → a ≡ b)
       × ((a b : Answer Again) → tellAgain a ≡ tellAgain b → a ≡ b)

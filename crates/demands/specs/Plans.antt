@@ -1,7 +1,11 @@
--- Six more plans, word for word. Each fixes an order or a field that the desk examples leave open, by a set whose plan would be another under another reading.
+-- Six more plans, word for word, and one more answer. Each fixes an order, a field or a size that the desk examples leave open, by a set whose plan or answer would be
+-- another under another reading.
 use Prim.Native.Nat.{ℕ}
 use mathlib.Core.Path.{_≡_}
 use mathlib.Core.List.{List, [], _∷_}
+use Rattle.model.specs.Answer.{given}
+use Rattle.model.specs.Set.{Set, claim, release}
+use Rattle.model.specs.Layout.{encode}
 use Rattle.demands.specs.Terms.{times}
 use Rattle.demands.specs.Examples.{analysed}
 
@@ -46,6 +50,16 @@ u =
     0x10000001 ∷ 0x10000001 ∷ 0x10000001 ∷ 0x20000000 ∷ 0x30000002 ∷ 0x30000001 ∷ 0x40000002 ∷ 0x30000000 ∷ 0x40000001 ∷ 0x40000000
     ∷ 0x20000000 ∷ 0x30000002 ∷ 0x30000001 ∷ 0x40000001 ∷ 0x30000000 ∷ 0x30000001 ∷ 0x40000002 ∷ 0x40000001 ∷ 0x40000000 ∷ 0x50000013 ∷ []
 
+-- v: two tasks that claim two devices in opposite order, each with four claims and releases of a device of its own in between
+abbrev pub v : Set
+v = record {
+  capacities = 1 ∷ 1 ∷ 1 ∷ 1 ∷ [];
+  tasks =
+      (claim 0 ∷ times 4 (claim 2 ∷ release 2 ∷ []) (claim 1 ∷ release 1 ∷ release 0 ∷ []))
+      ∷ (claim 1 ∷ times 4 (claim 3 ∷ release 3 ∷ []) (claim 0 ∷ release 0 ∷ release 1 ∷ []))
+      ∷ [];
+}
+
 pub record Plans : Type 0 where
   -- the task sets by their ascending lists: 01, 02, 03, 12, 13, 23; a task outside the set over 0 to its L
   pub m-plan : analysed m 81 31 .plan
@@ -78,3 +92,5 @@ pub record Plans : Type 0 where
   pub u-plan : analysed u 63 17 .plan
       ≡ 0x60000000 ∷ 0x80000405 ∷ 0x80010407 ∷ 0x60000001 ∷ 0x80000204 ∷ 0x80010202 ∷ 0x60000001 ∷ 0x80000204 ∷ 0x80010506
       ∷ 0x60000002 ∷ 0x80000102 ∷ 0x80010105 ∷ 0x70000000 ∷ 0x80000203 ∷ 0x80010404 ∷ 0xA000001F ∷ 0x50000010 ∷ []
+  -- 81 of 148 permitted states are unsafe, and 81,000 has more than 16 bits
+  pub v-answer : analysed (encode v) 169 11 .answer ≡ given (record { words = 11; quotient = 547; remainder = 44 })

@@ -11,7 +11,7 @@ use Rattle.model.specs.State.{State, InGrid, rank}
 use Rattle.model.specs.Box.{Box, side}
 use Rattle.model.specs.Forbidden.{Forbidden}
 use Rattle.model.specs.Plan.{Plan}
-use Rattle.model.specs.Analysis.{analyse}
+use Rattle.model.specs.Analysis.{Planned, analyse}
 use Rattle.model.specs.StoredPlan.{Location, in-forbidden, in-unsafe, in-neither, locate}
 use Rattle.demands.specs.Terms.{Ordered}
 use Rattle.demands.specs.Examples.{a, analysed}
@@ -197,5 +197,5 @@ pub record StoredPlans : Type 0 where
   -- positions past the task count are unread
   pub unread : (x y : State) (ws : List ℕ) (n : ℕ) → length x ≡ 8 → length y ≡ 8 → ((t : ℕ) → t < n → at x t ≡ at y t) → locate x ws n ≡ locate y ws n
   -- of every accepted analysis, whatever the slices held and however long they are
-  pub agrees : (words mapped plan : List ℕ) (k : ℕ) → analyse words mapped plan .answer ≡ given k → Agrees words mapped plan k
+  pub agrees : (words mapped plan : List ℕ) (p : Planned) → analyse words mapped plan .answer ≡ given p → Agrees words mapped plan (p .words)
   pub questions : Questions

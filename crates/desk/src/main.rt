@@ -17,6 +17,7 @@ fn main() {
     calls::spoilt_records(&words, &map);
     calls::spoilt_maps(&words);
     sets::mapped_sets();
+    sets::longer_slice();
     sets::small_sets();
     stored::refused();
     stored::cleaned();

@@ -89,6 +89,13 @@ pub fn mapped_sets() {
     map_line(b"e", &e, &mut map_of_e);
 }
 
+// Example a in a map slice as long as d's, full of dead states before: what stands behind the grid is left, and isn't counted.
+pub fn longer_slice() {
+    let a = A;
+    let mut map = [model::DEAD; GRID_OF_D];
+    map_line(b"a in a slice of 49", &a, &mut map);
+}
+
 // Examples f to k.
 pub fn small_sets() {
     let mut map = [UNTOUCHED; GRID_OF_G];

@@ -3,11 +3,14 @@ use Prim.Native.Nat.{ℕ, suc, _+_, _≤_}
 use native.Mathlib.Omega.{arith}
 use native.Mathlib.Nat.{le-trans}
 use mathlib.Core.Path.{_≡_, refl}
-use mathlib.Core.Bool.{Bool, true, not}
+use mathlib.Core.Bool.{Bool, true, not, cond}
 use mathlib.Core.List.{List, [], _∷_, _++_, List·Memᴰ, List·Memᴰ·head, List·Memᴰ·tail, List·Memᴰ·cases-cons, List·Memᴰ·not-nil}
 use lib.ListN.{length}
+use Rattle.model.specs.Below.{howMany}
+use Rattle.model.specs.Set.{at}
 use Rattle.model.specs.Plan.{keep, AscendingFrom}
 use Rattle.model.proofs.Bools.{by-bool, by-cases}
+use Rattle.model.proofs.Counts.{many-zero, many-first}
 use Rattle.model.proofs.Each.{Each}
 
 pub ascending-weaken : {r q : ℕ} (l : List ℕ) → r ≤ q → AscendingFrom q l → AscendingFrom r l
@@ -68,3 +71,16 @@ module _ (f : ℕ → Bool) where
   kept-count (a ∷ l) =
       let rest = kept-count l in
       by-bool (f a) (λ e. rw e (omega arith)) (λ e. rw e (omega arith))
+
+  -- by their places
+  pub kept-many : (l : List ℕ) → length (keep f l) ≡ howMany (length l) (λ i. f (at l i))
+  unfolding keep
+  kept-many [] = many-zero (λ i. f (at [] i))
+  kept-many (a ∷ l) =
+      let passes : ℕ → Bool = λ i. f (at (a ∷ l) i) in
+      let later : ℕ = howMany (length l) (λ i. f (at l i)) in
+      let all : howMany (suc (length l)) passes ≡ cond (f a) 1 0 + later = many-first (length l) passes in
+      let rest = kept-many l in
+      by-bool (f a)
+      (λ e. let z : howMany (suc (length l)) passes ≡ 1 + later = rw e at all in rw e (omega (arith, z, rest)))
+      (λ e. let z : howMany (suc (length l)) passes ≡ 0 + later = rw e at all in rw e (omega (arith, z, rest)))

@@ -48,6 +48,7 @@ pub mod Byte
 pub mod MapExact
 pub mod Keep
 pub mod DeadRanks
+pub mod StatesCounted
 pub mod ReachExact
 pub mod NoUnsafe
 -- the plan by sections: read back, counted, fitting

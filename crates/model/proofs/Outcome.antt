@@ -14,7 +14,7 @@ use Rattle.model.specs.Map.{mapOf}
 use Rattle.model.specs.Plan.{planOf, planWords}
 use Rattle.model.specs.Record.{mapFits}
 use Rattle.model.specs.Slice.{over}
-use Rattle.model.specs.Analysis.{planFits, withRoom, analyse}
+use Rattle.model.specs.Analysis.{Planned, planFits, planned, withRoom, analyse}
 use Rattle.model.proofs.Bools.{by-bool, by-cases}
 use Rattle.model.proofs.Answers.{given-refused, refused-given, refused-number, given-value, then-refused, then-given}
 use Rattle.model.proofs.ReadNumbers.{read-number}
@@ -70,23 +70,23 @@ module _ (words map : List ℕ) where
     unfolding ifGiven setOf
     plan-made s ws e q d h = rw (e, q, d, h)
 
-    -- accepted: the plan's words stand at the front of the plan slice too, which is long enough for them, and their number is answered
-    pub accepted-made : (n : ℕ) → analyse words map plan .answer ≡ given n
+    -- accepted: the plan's words stand at the front of the plan slice too, which is long enough for them, and what is answered is the set's, with their number
+    pub accepted-made : (a : Planned) → analyse words map plan .answer ≡ given a
         → Mapped (read words) map (analyse words map plan .map)
         × (analyse words map plan .plan ≡ over (planWords (planOf (setOf (read words)))) plan)
-        × (n ≤ length plan)
-        × (n ≡ length (planWords (planOf (setOf (read words)))))
+        × (a .words ≤ length plan)
+        × (a ≡ planned (setOf (read words)) (length (planWords (planOf (setOf (read words))))))
     unfolding ifGiven setOf
-    accepted-made n e =
-        let r = then-given _ (withRoom words map) n .0 e in
-        let q = then-given _ (planFits (r .0) plan) n .0 (r .2) in
+    accepted-made a e =
+        let r = then-given _ (withRoom words map) a .0 e in
+        let q = then-given _ (planFits (r .0) plan) a .0 (r .2) in
         let p = plan-given (r .0) plan (q .0) (q .1) in
         let d = room-given (r .0) (r .1) .0 in
-        let count = given-value (q .2) in (
+        let answered : planned (r .0) (length (q .0)) ≡ a = given-value (q .2) in (
           rw (r .1) (room-made (r .0) (r .1)),
           plan-made (r .0) (q .0) (r .1) (q .1) d (p .0),
-          rw count at (p .1),
-          rw d (sym count ∙ ap length (p .0)),
+          rw (← answered) (p .1),
+          rw d (sym answered ∙ ap (λ ws. planned (r .0) (length ws)) (p .0)),
         )
 
     -- 14: the map stands all the same

@@ -12,7 +12,7 @@ use Rattle.model.specs.Set.{Set, lengthsOf, size}
 use Rattle.model.specs.Read.{read}
 use Rattle.model.specs.Record.{mapFits}
 use Rattle.model.specs.Slice.{over}
-use Rattle.model.specs.Analysis.{planFits, withRoom, analyse}
+use Rattle.model.specs.Analysis.{Planned, planFits, withRoom, analyse}
 use Rattle.model.specs.Printed.{wordsOf, toPrint, refusalLine, textOf, printed, TEXT, shown, printedIn}
 use Rattle.model.proofs.Bools.{by-cases}
 use Rattle.model.proofs.Answers.{given-refused, given-value, then-refused, then-given}
@@ -37,15 +37,16 @@ module _ (words map plan : List ℕ) (all : 65536 ≤ length map) (most : length
   written s ws e q = rw (e, q)
 
   -- accepted: the words that the plan slice has at its front
-  pub planned : (n : ℕ) → analyse words map plan .answer ≡ given n
-      → ((read words then toPrint) ≡ given (take n (analyse words map plan .plan))) × (n ≤ 16384)
-  planned n e =
-      let r = then-given _ (withRoom words map) n .0 e in
-      let q = then-given _ (planFits (r .0) plan) n .0 (r .2) in
-      let front = take-at (q .0) (drop (length (q .0)) plan) n (given-value (q .2)) in
-      let left = ap (take n) (written (r .0) (q .0) (r .1) (q .1)) ∙ front in (
+  pub planned : (a : Planned) → analyse words map plan .answer ≡ given a
+      → ((read words then toPrint) ≡ given (take (a .words) (analyse words map plan .plan))) × (a .words ≤ 16384)
+  planned a e =
+      let r = then-given _ (withRoom words map) a .0 e in
+      let q = then-given _ (planFits (r .0) plan) a .0 (r .2) in
+      let count : length (q .0) ≡ a .words = ap (λ (p : Planned). p .words) (given-value (q .2)) in
+      let front = take-at (q .0) (drop (length (q .0)) plan) (a .words) count in
+      let left = ap (take (a .words)) (written (r .0) (q .0) (r .1) (q .1)) ∙ front in (
         then-given toPrint (read words) (q .0) .1 (r .0, room-given words map (r .0) (r .1) .0, sym (fitted (r .0)) ∙ q .1) ∙ ap given (sym left),
-        omega (arith, plan-given (r .0) plan (q .0) (q .1) .1, given-value (q .2)),
+        omega (arith, plan-given (r .0) plan (q .0) (q .1) .1, count),
       )
 
   -- refused: with the same number and place

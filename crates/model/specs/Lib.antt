@@ -17,6 +17,7 @@ pub mod Map
 pub mod Reach
 pub mod UnsafeBoxes
 pub mod Plan
+pub mod PerThousand
 pub mod Record
 pub mod Analysis
 pub mod Broker

@@ -2,15 +2,16 @@
 use Prim.Native.Nat.{ℕ}
 use mathlib.Core.Bool.{cond}
 use lib.Dec.{eqb}
-use Rattle.model.specs.Answer.{Answer, given, refused}
+use Rattle.model.specs.Answer.{Answer, given, refused, ifGiven}
 use Rattle.model.specs.Set.{lengthsOf, size}
 use Rattle.model.specs.Read.{Reading}
+use Rattle.model.specs.Analysis.{Planned}
 use Rattle.model.specs.Broker.{Bid, granted, finished, busy, held, Again, restarted}
 use Rattle.model.specs.StoredPlan.{Location, in-forbidden, in-unsafe, in-neither}
 
--- the version of the library, 3.0.0: major times 10,000, minor times 100, patch
+-- the version of the library, 4.0.0: major times 10,000, minor times 100, patch
 abbrev pub VERSION : ℕ
-VERSION = 30000
+VERSION = 40000
 
 -- a kind, a refusal's number and a value; 0 where there is none
 pub record Told : Type 0 where
@@ -47,10 +48,21 @@ locationNumbers in-neither = plain 11
 abbrev pub tellReading : Reading → Told
 tellReading = tell (λ s. valued 1 (size (lengthsOf s)))
 
--- an analysis, with the number of plan words, and a route, with its length
-abbrev pub tellAnalysis : Answer ℕ → Told
-tellAnalysis = tell (λ n. valued 2 n)
+-- what is told of an analysis: the answer, with the number of plan words, and beside it the quotient and the remainder, 0 and 0 where it is refused
+pub record AnalysisTold : Type 0 where
+  pub answer : Told
+  pub quotient : ℕ
+  pub remainder : ℕ
 
+-- each of the three numbers of an accepted analysis in its place
+abbrev pub tellAnalysis : Answer Planned → AnalysisTold
+tellAnalysis a = record {
+  answer = tell (λ p. valued 2 (p .words)) a;
+  quotient = ifGiven a (λ p. p .quotient) 0;
+  remainder = ifGiven a (λ p. p .remainder) 0;
+}
+
+-- a route, with its length
 abbrev pub tellRoute : Answer ℕ → Told
 tellRoute = tell (λ n. valued 3 n)
 
@@ -81,7 +93,11 @@ bidHeard a =
     (cond (eqb (a .kind) 6) (busy (a .value))
     (held (a .value))))
 
--- an analysis, a route or the cleaner: the number
+-- an analysis: the number, and the two beside it
+abbrev pub hearAnalysis : AnalysisTold → Answer Planned
+hearAnalysis t = hear (λ a. record { words = a .value; quotient = t .quotient; remainder = t .remainder }) (t .answer)
+
+-- a route or the cleaner: the number
 abbrev pub hearNumber : Told → Answer ℕ
 hearNumber = hear (λ a. a .value)
 

@@ -1,7 +1,7 @@
 // The numbers of docs/SCOPE.md, by name. What they mean stands in specs/, and the theorems on it in proofs/.
 
 // The version of all that is built from here: major times 10,000, minor times 100, patch. CHANGELOG.md says what moves which.
-pub const VERSION: u32 = 30000;
+pub const VERSION: u32 = 40000;
 
 // The limits of a set.
 pub const MAX_WORDS: usize = 4096;
@@ -49,6 +49,9 @@ pub const FORBIDDEN: u8 = 1;
 pub const UNSAFE: u8 = 2;
 
 pub const DEAD: u8 = 3;
+
+// What is counted in parts per thousand is multiplied by this.
+pub const THOUSAND: u32 = 1000;
 
 // The refusals of a set.
 pub const NO_WORDS: u8 = 1;

@@ -14,11 +14,11 @@ use Rattle.analysis.specs.Says.{answerOf, analysedOf}
 
 module _ (words map plan made written : List ℕ) (r : Outcome) (all : 65536 ≤ length map) (most : length plan ≡ 16384)
     (h : analysedOf r made written ≡ analyse words map plan) where
-  pub has-plan : (n : ℕ) → r ≡ Planned n → ((read words then toPrint) ≡ given (take n written)) × (n ≤ 16384)
+  pub has-plan : (n q m : ℕ) → r ≡ Planned n q m → ((read words then toPrint) ≡ given (take n written)) × (n ≤ 16384)
   unfolding answerOf
-  has-plan n e =
-      let a : analyse words map plan .answer ≡ given n = ap (λ (x : Analysed). x .answer) (sym h) ∙ ap answerOf e in
-      let p = planned words map plan all most n a in
+  has-plan n q m e =
+      let a : analyse words map plan .answer ≡ given (record { words = n; quotient = q; remainder = m }) = ap (λ (x : Analysed). x .answer) (sym h) ∙ ap answerOf e in
+      let p = planned words map plan all most (record { words = n; quotient = q; remainder = m }) a in
       (rw (ap (λ (x : Analysed). x .plan) h) (p .0), p .1)
 
   pub has-none : (n p : ℕ) → r ≡ Refused n p → (read words then toPrint) ≡ refused n p

@@ -44,7 +44,7 @@ fn print_plan(words: &[u32], text: &mut [u8]) -> usize
     let mut map = [NOT_ANALYSED; MAP];
     let mut plan = [0u32; PLAN];
     match analysis::analyse(words, &mut map, &mut plan) {
-        Outcome::Planned { words: count } => listing::fill_lines(&plan[..count], text)
+        Outcome::Planned { words: count, .. } => listing::fill_lines(&plan[..count], text)
             * listing::LINE,
         Outcome::Refused { number, place } => listing::put_refusal(number, place, text),
     }

@@ -7,7 +7,7 @@ use arbiter::{words_of, Analysed, BidAnswer, BoxKind, Refused, Service};
 use std::io::{stdout, Write};
 use std::process::ExitCode;
 
-/// What the set and its plan have, in numbers.
+/// What the set and its plan have, in numbers, and how much of the grid is unsafe.
 fn described(analysed: &Analysed) -> String {
     let set = analysed.set();
     let plan = analysed.plan();
@@ -16,7 +16,7 @@ fn described(analysed: &Analysed) -> String {
     let of_set = format!("words: {}, devices: {}, tasks: {}, states: {}", set.words().len(), set.devices(), set.tasks(), set.states());
     let of_plan = format!("forbidden boxes: {}, unsafe boxes: {unsafe_boxes}", boxes - unsafe_boxes);
     let dead = format!("dead states: {} reached, {} not", plan.dead_states().count(), plan.unreached_states().count());
-    format!("{of_set}\n{of_plan}, {dead}\n")
+    format!("{of_set}\n{of_plan}, {dead}\nunsafe: {}\n", analysed.per_thousand())
 }
 
 /// One bid of every task, each told; whether all of them were finished already.

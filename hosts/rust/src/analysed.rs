@@ -1,6 +1,6 @@
 //! A set with what its analysis made (`docs/SCOPE.md`, "Analysis").
 
-use crate::{plain, Plan, Refusal, Refused, Set};
+use crate::{plain, PerThousand, Plan, Planned, Refusal, Refused, Set};
 use alloc::vec;
 use alloc::vec::Vec;
 
@@ -16,6 +16,7 @@ pub struct Analysed {
     set: Vec<u32>,
     map: Vec<u8>,
     plan: Vec<u32>,
+    per_thousand: PerThousand,
 }
 
 impl Analysed {
@@ -34,10 +35,10 @@ impl Analysed {
         let mut plan = vec![0; FIRST_PLAN_LENGTH];
         loop {
             match plain::analyse(&set, &mut map, &mut plan) {
-                Ok(length) => {
-                    plan.truncate(length);
+                Ok(Planned { words, per_thousand }) => {
+                    plan.truncate(words);
                     plan.shrink_to_fit();
-                    return Ok(Analysed { set, map, plan });
+                    return Ok(Analysed { set, map, plan, per_thousand });
                 }
                 Err(Refused { refusal: Refusal::PlanTooShort, place }) => plan.resize(2 * place, 0),
                 Err(refused) => return Err(refused),
@@ -58,5 +59,29 @@ impl Analysed {
     /// The plan.
     pub fn plan(&self) -> Plan<'_> {
         Plan::new(&self.plan)
+    }
+
+    /// How much of the grid is unsafe, in parts per thousand of the permitted states.
+    ///
+    /// ```
+    /// use arbiter::{Analysed, PerThousand};
+    ///
+    /// // Two tasks that take two devices in opposite order: one of 20 permitted states is unsafe.
+    /// let set = [
+    ///     0x10000001, 0x10000001, 0x20000000, 0x30000000, 0x30000001, 0x40000001, 0x40000000, 0x20000000, 0x30000001, 0x30000000,
+    ///     0x40000000, 0x40000001, 0x5000000C,
+    /// ];
+    /// assert_eq!(Analysed::new(set)?.per_thousand(), PerThousand { quotient: 50, remainder: 0 });
+    ///
+    /// // In the same order: none is.
+    /// let mended = [
+    ///     0x10000001, 0x10000001, 0x20000000, 0x30000000, 0x30000001, 0x40000001, 0x40000000, 0x20000000, 0x30000000, 0x30000001,
+    ///     0x40000001, 0x40000000, 0x5000000C,
+    /// ];
+    /// assert_eq!(Analysed::new(mended)?.per_thousand(), PerThousand { quotient: 0, remainder: 0 });
+    /// # Ok::<(), arbiter::Refused>(())
+    /// ```
+    pub fn per_thousand(&self) -> PerThousand {
+        self.per_thousand
     }
 }

@@ -1,7 +1,40 @@
-//! What calls answer: a bid's answer, where a state lies in a plan, a refusal with its place, and how they are had from the library's numbers.
+//! What calls answer: an accepted analysis, a bid's answer, where a state lies in a plan, a refusal with its place, and how they are had from the library's numbers.
 
 use crate::{sys, Refusal};
 use core::fmt;
+
+/// How much of a set's grid is unsafe, in parts per thousand of its permitted states: 1,000 times the unsafe states divided by the permitted ones, with
+///
+/// > 1,000 · unsafe = quotient · permitted + remainder, and remainder < permitted.
+///
+/// The permitted states are all but the forbidden ones, and the unsafe states are those of them from which no steps lead to the end: the dead ones too, and also
+/// those that no run comes to. So it is for comparing two drafts of a set, by their quotients; it is no probability. Where the quotients are the same, the
+/// remainders alone don't say which set has more: each counts in parts of its own set's permitted states. For this reason it has no order.
+///
+/// Both numbers are 0 exactly if no state is unsafe. It prints as `153 of every 1000 permitted states, remainder 33`.
+#[derive(Clone, Copy, Debug, PartialEq, Eq, Hash)]
+pub struct PerThousand {
+    /// Of every 1,000 permitted states so many are unsafe, rounded down; at most 999.
+    pub quotient: u32,
+    /// What the rounding cut off, exactly: so many parts of as many as the set has permitted states.
+    pub remainder: u32,
+}
+
+impl fmt::Display for PerThousand {
+    fn fmt(&self, to: &mut fmt::Formatter<'_>) -> fmt::Result {
+        write!(to, "{} of every 1000 permitted states, remainder {}", self.quotient, self.remainder)
+    }
+}
+
+/// What an accepted analysis answers.
+#[must_use = "it says how many words of the slice are the plan"]
+#[derive(Clone, Copy, Debug, PartialEq, Eq, Hash)]
+pub struct Planned {
+    /// The number of plan words.
+    pub words: usize,
+    /// How much of the grid is unsafe.
+    pub per_thousand: PerThousand,
+}
 
 /// What the broker answers to a bid. Only `Granted` lets the task act and changes the record.
 #[must_use = "only Granted lets the task act"]

@@ -72,7 +72,7 @@ mod words;
 
 #[cfg(feature = "alloc")]
 pub use analysed::Analysed;
-pub use answers::{BidAnswer, Location, NoSuchRefusal, Refused};
+pub use answers::{BidAnswer, Location, NoSuchRefusal, PerThousand, Planned, Refused};
 #[cfg(feature = "alloc")]
 pub use cleaning::cleaned;
 pub use cleaning::is_claimed;

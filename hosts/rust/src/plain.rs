@@ -12,7 +12,7 @@
 //! [`locate`] and [`clean`] take none of these, and trust nothing.
 //!
 //! ```
-//! use arbiter::{plain, BidAnswer, Location, Record};
+//! use arbiter::{plain, BidAnswer, Location, PerThousand, Record};
 //!
 //! # let set = [
 //! #     0x10000001, 0x10000001, 0x20000000, 0x30000000, 0x30000001, 0x40000001, 0x40000000, 0x20000000, 0x30000001, 0x30000000,
@@ -20,20 +20,23 @@
 //! # ];
 //! let mut map = [plain::NOT_ANALYSED; 64];
 //! let mut plan = [0; 64];
-//! let words = plain::analyse(&set, &mut map, &mut plan)?;
-//! assert_eq!(plan[words - 1], 0x5000000A);
+//! let planned = plain::analyse(&set, &mut map, &mut plan)?;
+//! let plan = &plan[..planned.words];
+//! assert_eq!(plan.last(), Some(&0x5000000A));
+//! // One of its 20 permitted states is unsafe.
+//! assert_eq!(planned.per_thousand, PerThousand { quotient: 50, remainder: 0 });
 //!
 //! let mut record = Record::fresh();
 //! assert_eq!(plain::bid(&mut record, &set, &map, 0)?, BidAnswer::Granted);
 //! assert_eq!(plain::bid(&mut record, &set, &map, 1)?, BidAnswer::Held { rank: 6 });
 //!
 //! // The state from which that bid was held back, asked of the plan alone.
-//! assert_eq!(plain::locate([1, 1, 0, 0, 0, 0, 0, 0], &plan[..words], 2)?, Location::Unsafe { index: 6 });
+//! assert_eq!(plain::locate([1, 1, 0, 0, 0, 0, 0, 0], plan, 2)?, Location::Unsafe { index: 6 });
 //! # Ok::<(), arbiter::Refused>(())
 //! ```
 
 use crate::answers::{refused, value_of};
-use crate::{sys, version, BidAnswer, Location, Positions, Record, Refused};
+use crate::{sys, version, BidAnswer, Location, PerThousand, Planned, Positions, Record, Refused};
 
 /// What a map slice is filled with before the analysis: no byte of a map, so that one that no analysis wrote is refused and grants nothing.
 pub const NOT_ANALYSED: u8 = 0xFF;
@@ -57,7 +60,8 @@ pub fn read(set: &[u32]) -> Result<usize, Refused> {
     }
 }
 
-/// Analyses a set: writes its map and its plan and answers the number of plan words. Beyond what is written both slices keep what they had.
+/// Analyses a set: writes its map and its plan, and answers the number of plan words and how much of the grid is unsafe. Beyond what is written both slices keep
+/// what they had, and nothing there is counted.
 ///
 /// Fill the map slice with [`NOT_ANALYSED`] before. Nobody knows how long a plan gets: 1,024 words do for most sets.
 ///
@@ -65,17 +69,19 @@ pub fn read(set: &[u32]) -> Result<usize, Refused> {
 ///
 /// # Errors
 ///
-/// Refusals 1 to 14 and 24. 14 leaves the finished map, and zeros in the whole plan slice; the others leave both slices untouched.
+/// Refusals 1 to 14 and 24. 14 leaves the finished map, and zeros in the whole plan slice; the others leave both slices untouched. At 14 too nothing is told of
+/// how much is unsafe: a host that goes on without the plan, and wants to know, counts the map's bytes.
 ///
 /// # Panics
 ///
 /// If the linked library isn't the one that belongs to this crate.
-pub fn analyse(set: &[u32], map: &mut [u8], plan: &mut [u32]) -> Result<usize, Refused> {
+pub fn analyse(set: &[u32], map: &mut [u8], plan: &mut [u32]) -> Result<Planned, Refused> {
     version::check();
     // SAFETY: as in `read`; what is lent by `&mut` overlaps nothing.
-    let answer = unsafe { sys::arbiter_analyse(set.as_ptr(), set.len(), map.as_mut_ptr(), map.len(), plan.as_mut_ptr(), plan.len()) };
+    let analysis = unsafe { sys::arbiter_analyse(set.as_ptr(), set.len(), map.as_mut_ptr(), map.len(), plan.as_mut_ptr(), plan.len()) };
+    let sys::Analysis { answer, quotient, remainder } = analysis;
     match answer.kind {
-        sys::PLANNED => Ok(value_of(answer)),
+        sys::PLANNED => Ok(Planned { words: value_of(answer), per_thousand: PerThousand { quotient, remainder } }),
         _ => Err(refused("arbiter_analyse", answer)),
     }
 }

@@ -1,4 +1,4 @@
-//! The library as it is: the calls of `include/arbiter.h`, its three structs and every number by name.
+//! The library as it is: the calls of `include/arbiter.h`, its four structs and every number by name.
 //!
 //! Nothing here is safe to call without reading `docs/HOSTS.md`; the crate's root has the safe interface. A caller from here looks first whether
 //! `arbiter_version` answers `VERSION`: the structs may differ from one version to the next.
@@ -30,11 +30,26 @@ pub struct Answer {
     pub value: u64,
 }
 
-// The compiler must lay all three out as the library does.
+/// What an analysis answers, and beside it how much of the grid is unsafe: if it is `PLANNED`, 1,000 times the unsafe states divided by the permitted ones,
+/// quotient and remainder. In a refused answer both are 0.
+#[must_use = "a refused call has written no plan"]
+#[repr(C)]
+#[derive(Clone, Copy, Debug, PartialEq, Eq)]
+pub struct Analysis {
+    pub answer: Answer,
+    pub quotient: u32,
+    pub remainder: u32,
+}
+
+// The compiler must lay all four out as the library does.
 const _: () = assert!(size_of::<Answer>() == 16);
 const _: () = assert!(offset_of!(Answer, kind) == 0);
 const _: () = assert!(offset_of!(Answer, refusal) == 4);
 const _: () = assert!(offset_of!(Answer, value) == 8);
+const _: () = assert!(size_of::<Analysis>() == 24);
+const _: () = assert!(offset_of!(Analysis, answer) == 0);
+const _: () = assert!(offset_of!(Analysis, quotient) == 16);
+const _: () = assert!(offset_of!(Analysis, remainder) == 20);
 const _: () = assert!(size_of::<Record>() == 12);
 const _: () = assert!(offset_of!(Record, positions) == 0);
 const _: () = assert!(offset_of!(Record, grants) == 8);
@@ -44,7 +59,7 @@ const _: () = assert!(offset_of!(State, positions) == 0);
 extern "C" {
     pub fn arbiter_version() -> u32;
     pub fn arbiter_read(set: *const u32, set_len: usize) -> Answer;
-    pub fn arbiter_analyse(set: *const u32, set_len: usize, map: *mut u8, map_len: usize, plan: *mut u32, plan_len: usize) -> Answer;
+    pub fn arbiter_analyse(set: *const u32, set_len: usize, map: *mut u8, map_len: usize, plan: *mut u32, plan_len: usize) -> Analysis;
     pub fn arbiter_fresh() -> Record;
     pub fn arbiter_bid(record: *mut Record, set: *const u32, set_len: usize, map: *const u8, map_len: usize, task: usize) -> Answer;
     pub fn arbiter_again(record: *mut Record, set: *const u32, set_len: usize) -> Answer;
@@ -54,12 +69,12 @@ extern "C" {
 }
 
 // The version that this interface is of, and the library must be: major times 10,000, minor times 100, patch.
-pub const VERSION: u32 = 30000;
+pub const VERSION: u32 = 40000;
 
 // The kinds of an answer. A zeroed answer is a refusal.
 pub const REFUSED: u32 = 0; // value: the refusal's place
 pub const ACCEPTED: u32 = 1; // a set that is read; value: the grid, the number of its states
-pub const PLANNED: u32 = 2; // value: the number of plan words
+pub const PLANNED: u32 = 2; // value: the number of plan words; the parts per thousand stand beside the answer
 pub const ROUTED: u32 = 3; // value: the route's length
 pub const GRANTED: u32 = 4;
 pub const FINISHED: u32 = 5;

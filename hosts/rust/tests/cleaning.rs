@@ -4,7 +4,7 @@ mod sets;
 
 use arbiter::plain::{analyse, clean, read, NOT_ANALYSED};
 use arbiter::{is_claimed, Refusal, Set};
-use sets::{refused, users_of_one_device, A, D, E, R, U};
+use sets::{planned, refused, users_of_one_device, A, D, E, R, U};
 
 const UNWRITTEN: u32 = 0xAAAA_AAAA;
 
@@ -46,7 +46,7 @@ fn the_old_half_of_example_g_loses_its_device_and_the_new_one_keeps_it() {
     assert_eq!(cleaned(&OLD_G, 2), [0x20000000, 0x50000001]);
     assert_eq!(cleaned(&G, 5), G);
     let (mut map, mut plan) = ([NOT_ANALYSED; 3], [0; 1]);
-    assert_eq!(analyse(&G, &mut map, &mut plan), Ok(1));
+    assert_eq!(analyse(&G, &mut map, &mut plan), planned(1, 0, 0));
     assert_eq!((map, plan), ([0; 3], [0x50000000]));
 }
 

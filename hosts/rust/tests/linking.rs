@@ -9,12 +9,13 @@ const STAND_IN: &str = r#"
 #include <stdint.h>
 #include <stdlib.h>
 typedef struct { uint32_t kind, refusal; uint64_t value; } answer;
+typedef struct { answer told; uint32_t quotient, remainder; } analysis;
 typedef struct { uint8_t positions[8]; uint32_t grants; } record;
 static uint32_t number(const char *name) { return (uint32_t)atoi(getenv(name)); }
 static answer any(void) { return (answer){ number("KIND"), number("REFUSAL"), 0 }; }
 uint32_t arbiter_version(void) { return number("VERSION"); }
 answer arbiter_read(void) { return any(); }
-answer arbiter_analyse(void) { return any(); }
+analysis arbiter_analyse(void) { return (analysis){ any(), 0, 0 }; }
 answer arbiter_bid(void) { return any(); }
 answer arbiter_again(void) { return any(); }
 answer arbiter_route(void) { return any(); }

@@ -2,8 +2,8 @@
 
 mod sets;
 
-use arbiter::{plain, sys, words_of, Action, Analysed, BidAnswer, BoxKind, Record, Refusal, Service};
-use sets::{refused, users_of_one_device, A, D, PLAN, STATES};
+use arbiter::{plain, sys, words_of, Action, Analysed, BidAnswer, BoxKind, PerThousand, Record, Refusal, Service};
+use sets::{planned, refused, users_of_one_device, A, D, E, PLAN, STATES};
 
 fn in_service(set: &[u32]) -> Service {
     Service::start(Analysed::new(set).unwrap())
@@ -16,8 +16,9 @@ fn example_a_is_analysed() {
     assert_eq!((analysed.set().tasks(), analysed.set().states()), (2, STATES));
     assert_eq!(analysed.plan().words(), PLAN);
     let mut map = [plain::NOT_ANALYSED; STATES];
-    plain::analyse(&A, &mut map, &mut [0; PLAN.len()]).unwrap();
+    assert_eq!(plain::analyse(&A, &mut map, &mut [0; PLAN.len()]), planned(PLAN.len(), 50, 0));
     assert_eq!(analysed.map(), map);
+    assert_eq!(analysed.per_thousand(), PerThousand { quotient: 50, remainder: 0 });
 }
 
 #[test]
@@ -25,6 +26,8 @@ fn example_d_has_the_bytes_that_it_has() {
     let analysed = Analysed::new(&D[..]).unwrap();
     let count = |bytes: &[u8]| analysed.map().iter().filter(|byte| bytes.contains(byte)).count();
     assert_eq!((count(&[sys::FORBIDDEN]), count(&[sys::UNSAFE, sys::DEAD]), count(&[sys::OPEN])), (10, 6, 33));
+    assert_eq!(analysed.per_thousand(), PerThousand { quotient: 153, remainder: 33 });
+    assert_eq!(Analysed::new(E).unwrap().per_thousand(), PerThousand { quotient: 0, remainder: 0 });
 }
 
 #[test]
@@ -34,6 +37,7 @@ fn plans_of_every_length_are_had_whole() {
         let set = users_of_one_device(1, &[times, times]);
         let analysed = Analysed::new(set).unwrap();
         assert_eq!(analysed.plan().words().len(), 3 * boxes + 1);
+        assert_eq!(analysed.per_thousand(), PerThousand { quotient: 0, remainder: 0 });
         assert_eq!(analysed.plan().words().last(), Some(&(0x50000000 + 3 * boxes as u32)));
         assert_eq!(analysed.plan().boxes().filter(|plan_box| plan_box.kind == BoxKind::Forbidden { device: 0 }).count(), boxes);
     }

@@ -63,7 +63,7 @@ fn positions_past_the_task_count_are_unread() {
 fn agrees_with_its_map(words: &[u32]) {
     let set = Set::read(words).unwrap();
     let (mut map, mut plan) = (vec![plain::NOT_ANALYSED; set.states()], vec![0; 65_536]);
-    let length = plain::analyse(words, &mut map, &mut plan).unwrap();
+    let length = plain::analyse(words, &mut map, &mut plan).unwrap().words;
     let plan = Plan::new(&plan[..length]);
     for (rank, &byte) in map.iter().enumerate() {
         let positions = set.state_of_rank(rank).unwrap().positions();

@@ -2,7 +2,7 @@
 
 mod sets;
 
-use arbiter::{plain, sys, Action, BidAnswer, BoxKind, Location, NoSuchRefusal, Plan, Positions, Record, Refusal, Refused, Set, State};
+use arbiter::{plain, sys, Action, BidAnswer, BoxKind, Location, NoSuchRefusal, PerThousand, Plan, Positions, Record, Refusal, Refused, Set, State};
 use sets::{refused, A, D, E, PLAN, R, R_PLAN, STATES, STATES_OF_R, U, U_PLAN};
 use std::ops::RangeInclusive;
 
@@ -116,13 +116,13 @@ fn the_boxes_and_dead_states_of_plans() {
     assert_eq!(dead_states(plan), (vec![6], vec![]));
 
     let mut words = [0; 64];
-    let length = plain::analyse(&D, &mut [plain::NOT_ANALYSED; 49], &mut words).unwrap();
+    let length = plain::analyse(&D, &mut [plain::NOT_ANALYSED; 49], &mut words).unwrap().words;
     let plan = Plan::new(&words[..length]);
     let unsafe_boxes: Vec<_> = boxes(plan).into_iter().filter(|(kind, _)| *kind == BoxKind::Unsafe).collect();
     assert_eq!(unsafe_boxes, [(BoxKind::Unsafe, vec![2..=3, 1..=3]), (BoxKind::Unsafe, vec![1..=1, 1..=1])]);
     assert_eq!(dead_states(plan), (vec![24], vec![]));
 
-    let length = plain::analyse(&E, &mut [plain::NOT_ANALYSED; 27], &mut words).unwrap();
+    let length = plain::analyse(&E, &mut [plain::NOT_ANALYSED; 27], &mut words).unwrap().words;
     assert_eq!(boxes(Plan::new(&words[..length])), [(BoxKind::Forbidden { device: 0 }, vec![1..=1, 1..=1, 1..=1])]);
 }
 
@@ -137,7 +137,7 @@ fn dead_states_are_told_apart_by_whether_they_are_reached() {
     assert_eq!(dead_states(Plan::new(&U_PLAN)), (vec![], vec![31]));
     for (set, expected) in [(R, (vec![29], vec![31])), (U, (vec![], vec![31]))] {
         let mut words = [0; 64];
-        let length = plain::analyse(&set, &mut [plain::NOT_ANALYSED; STATES_OF_R], &mut words).unwrap();
+        let length = plain::analyse(&set, &mut [plain::NOT_ANALYSED; STATES_OF_R], &mut words).unwrap().words;
         assert_eq!(dead_states(Plan::new(&words[..length])), expected);
     }
     // Of either kind any number, each in its order, whatever the other has.
@@ -168,7 +168,7 @@ fn a_box_is_had_by_the_index_of_its_first_word() {
 #[test]
 fn the_boxes_of_d_cover_its_map() {
     let (mut map, mut words) = ([plain::NOT_ANALYSED; 49], [0; 64]);
-    let length = plain::analyse(&D, &mut map, &mut words).unwrap();
+    let length = plain::analyse(&D, &mut map, &mut words).unwrap().words;
     let plan = Plan::new(&words[..length]);
     let within = |positions: Positions, kind: fn(BoxKind) -> bool| {
         plan.boxes().filter(|plan_box| kind(plan_box.kind)).any(|plan_box| plan_box.sides().zip(positions).all(|(side, position)| side.contains(&position)))
@@ -215,6 +215,8 @@ fn everything_prints_for_a_log() {
     assert_eq!(locations.map(|location| location.to_string()), ["in forbidden box at 3", "in unsafe box at 6", "in no box"]);
     assert_eq!(locations.map(Location::text), ["in forbidden box", "in unsafe box", "in no box"]);
     assert_eq!([CLAIM_0, RELEASE_1].map(|action| action.to_string()), ["claims device 0", "releases device 1"]);
+    let of_d = PerThousand { quotient: 153, remainder: 33 };
+    assert_eq!(of_d.to_string(), "153 of every 1000 permitted states, remainder 33");
 }
 
 #[cfg(feature = "std")]

@@ -57,7 +57,13 @@ pub fn words(random: &mut Random, input: u64) -> Vec<u32> {
     match input % 18 {
         0..=3 => sized(random, &[12, 50, 200, 200, 600, 2000]),
         4 => few_devices(random),
-        5 => crossing(random),
+        5 => {
+            if round % 8 == 5 {
+                one_crossing(random, round / 8)
+            } else {
+                crossing(random)
+            }
+        }
         6 => pocket(random),
         7 => family(random, false),
         8..=10 => faulty(random, 1 + (round % FAULTS) as usize),
@@ -178,6 +184,21 @@ fn crossing(random: &mut Random) -> Vec<u32> {
         lists.push(list);
     }
     set_of(&capacities, &lists)
+}
+
+/// Two tasks that cross once, each with turns of a device of its own before its two claims and between them. By turns: long before them, so that under one state in a
+/// thousand is unsafe; long between them, so that nine in ten are; or any.
+fn one_crossing(random: &mut Random, turn: u64) -> Vec<u32> {
+    let tasks = [(0, 1, 2), (1, 0, 3)].map(|(first, second, own)| {
+        let (before, between) = match turn % 3 {
+            0 => (random.between(15, 25), 0),
+            1 => (0, random.between(30, 40)),
+            _ => (random.below(12), random.below(12)),
+        };
+        let turns = |times: usize| [claim(own), release(own)].repeat(times);
+        [turns(before), vec![claim(first)], turns(between), vec![claim(second), release(second), release(first)]].concat()
+    });
+    set_of(&[1; 4], &tasks)
 }
 
 /// The tasks of two sets of three devices. The first has a dead state that is reached and one that isn't, the second one that isn't and no other.

@@ -2,9 +2,10 @@
 
 use crate::cleaning::Cleanings;
 use crate::fenced::Fenced;
+use crate::per_thousand::{self, Parts};
 use crate::questions::Asked;
 use crate::random::Random;
-use crate::reference::{Answer, Record, State, Worked};
+use crate::reference::{Analysis, Answer, Record, State, Worked};
 use crate::stored_plan;
 use arbiter::sys;
 use std::fmt::Debug;
@@ -93,6 +94,7 @@ impl std::fmt::Display for Sets {
 pub struct Checker {
     pub seen: Seen,
     pub sets: Sets,
+    pub parts: Parts,
     pub asked: Asked,
     pub cleanings: Cleanings,
     /// Bids in service whose next action was a release.
@@ -139,6 +141,11 @@ pub fn laid_out(answer: Answer) -> sys::Answer {
     }
 }
 
+/// An analysis in the same way.
+pub fn laid_out_analysis(analysis: Analysis) -> sys::Analysis {
+    sys::Analysis { answer: laid_out(analysis.answer), quotient: analysis.parts.quotient, remainder: analysis.parts.remainder }
+}
+
 pub fn record_of(record: sys::Record) -> Record {
     Record { positions: record.positions, grants: record.grants }
 }
@@ -169,7 +176,15 @@ struct Made<'a> {
 
 impl Checker {
     pub fn new() -> Checker {
-        Checker { seen: Seen::default(), sets: Sets::default(), asked: Asked::default(), cleanings: Cleanings::default(), releases: 0, input: String::new() }
+        Checker {
+            seen: Seen::default(),
+            sets: Sets::default(),
+            parts: Parts::default(),
+            asked: Asked::default(),
+            cleanings: Cleanings::default(),
+            releases: 0,
+            input: String::new(),
+        }
     }
 
     /// Tells the whole case and ends the run.
@@ -227,10 +242,24 @@ impl Checker {
             sys::arbiter_analyse(set.as_ptr(), set.len(), map.as_mut_ptr(), map.len(), plan.as_mut_ptr(), plan.len())
         };
         let reference = worked.analyse(other_map.lent(), other_plan.lent());
-        self.answers(&made, library, reference);
+        self.answers(&made, library.answer, reference.answer);
+        if library != laid_out_analysis(reference) {
+            self.fail(&made, format!("the library answers {library:?}, the reference {:?}", reference.parts));
+        }
         self.alike(&made, "map slice", &map, &other_map);
         self.alike(&made, "plan slice", &plan, &other_plan);
         self.alike(&made, "set", &set, &before);
+        self.parts(&made, library, map.read(), worked.map.len());
+    }
+
+    /// What must be so of the parts per thousand, by the map that the library wrote.
+    fn parts(&mut self, made: &Made, analysis: sys::Analysis, map: &[u8], grid: usize) {
+        let (grid, beyond) = map.split_at(grid.min(map.len()));
+        let told = per_thousand::Made { analysis, grid, beyond };
+        if let Some(fault) = told.fault() {
+            self.fail(made, format!("the library answers {analysis:?}, and {fault}"));
+        }
+        self.parts.count(&told);
     }
 
     /// The record as it is afterwards comes back, so that a list of bids can go on from it.

@@ -120,8 +120,9 @@ fn of_old_set(checker: &mut Checker, random: &mut Random, words: &[u32], set: &S
     let twice = checker.clean(random, cleaned, &new, cleaned.len());
     checker.cleaned(words, twice == cleaned, || "cleaned twice, it is another than cleaned once".to_string());
 
-    let (map, plan) = reference::analysed(set);
+    let (map, plan, parts) = reference::analysed(set);
     checker.cleaned(words, map == new.map, || "cleaned, it has another map".to_string());
+    checker.cleaned(words, parts == new.parts, || "cleaned, it has other parts per thousand".to_string());
     let kept = set.claimed();
     let renamed = |&word: &u32| match (word >> 28, (word & 0x0FFF_FFFF) as usize) {
         (6, device) => 0x6000_0000 | kept.iter().position(|&other| other == device).unwrap() as u32,

@@ -1,9 +1,9 @@
 //! One record through very many bids and agains, as in service: the grant number held to a count of the grants, and the state to the reference, at every call.
 
 use crate::cases;
-use crate::checker::{laid_out, lent_record, record_of};
+use crate::checker::{laid_out, laid_out_analysis, lent_record, record_of};
 use crate::random::Random;
-use crate::reference::{Answer, Record, Worked};
+use crate::reference::{Analysis, Answer, Record, Worked};
 use arbiter::plain::NOT_ANALYSED;
 use arbiter::sys;
 
@@ -19,9 +19,10 @@ pub fn run(seed: u64, bids: u64, first_grants: u32) -> Result<Done, String> {
     let words = cases::example_a();
     let worked = Worked::new(&words);
     let (mut map, mut plan) = (vec![NOT_ANALYSED; worked.map.len()], vec![0u32; worked.plan.len()]);
-    let answer = unsafe { sys::arbiter_analyse(words.as_ptr(), words.len(), map.as_mut_ptr(), map.len(), plan.as_mut_ptr(), plan.len()) };
-    if answer != laid_out(Answer::Planned(worked.plan.len() as u64)) || map != worked.map || plan != worked.plan {
-        return Err(format!("example a is analysed wrongly: {answer:?}"));
+    let analysis = unsafe { sys::arbiter_analyse(words.as_ptr(), words.len(), map.as_mut_ptr(), map.len(), plan.as_mut_ptr(), plan.len()) };
+    let expected = Analysis { answer: Answer::Planned(worked.plan.len() as u64), parts: worked.parts };
+    if analysis != laid_out_analysis(expected) || map != worked.map || plan != worked.plan {
+        return Err(format!("example a is analysed wrongly: {analysis:?}"));
     }
     let mut record = unsafe { sys::arbiter_fresh() };
     if record != lent_record(Record { positions: [0; 8], grants: 0 }) {

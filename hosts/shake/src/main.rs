@@ -12,6 +12,7 @@ mod cleaning;
 mod fenced;
 mod long_run;
 mod package;
+mod per_thousand;
 mod plan_cases;
 mod questions;
 mod random;
@@ -61,6 +62,7 @@ fn main() {
         }
         print_table(&checker.seen);
         println!("{}", checker.sets);
+        println!("{}", checker.parts);
         println!("{}", checker.asked);
         println!("{}", checker.cleanings);
         let long = service(seed, (100 * last).min(MOST_BIDS), 0);
@@ -208,8 +210,8 @@ fn print_table(seen: &Seen) {
     }
 }
 
-/// Every answer that docs/SCOPE.md gives a call, every sort of dead states, every fault of a plan and every sort of list to clean must have come, or the run shows less than
-/// it says. 15 is the printer's alone.
+/// Every answer that docs/SCOPE.md gives a call, every sort of dead states and of parts per thousand, every fault of a plan and every sort of list to clean must have come,
+/// or the run shows less than it says. 15 is the printer's alone.
 fn all_seen(checker: &Checker, inputs: u64) {
     let seen = &checker.seen;
     const OF_A_SET: [usize; 13] = [1, 2, 3, 4, 5, 6, 7, 8, 9, 10, 11, 12, 24];
@@ -223,7 +225,7 @@ fn all_seen(checker: &Checker, inputs: u64) {
         (&[9, 10, 11], &[22, 23], &[]),
         (&[12], &[25], &OF_A_SET[..12]),
     ];
-    let mut missing: Vec<String> = checker.sets.missing().chain(checker.cleanings.missing(1 + inputs / 2000)).collect();
+    let mut missing: Vec<String> = checker.sets.missing().chain(checker.parts.missing()).chain(checker.cleanings.missing(1 + inputs / 2000)).collect();
     for ((name, _), _) in FAULTS.iter().zip(checker.asked.faults).filter(|(_, count)| *count == 0) {
         missing.push(format!("a plan with the fault {name}"));
     }

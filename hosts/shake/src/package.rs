@@ -5,7 +5,7 @@ use crate::cases;
 use crate::random::Random;
 use crate::reference::{held_after, Action, Answer, Refusal, Set, State, Worked};
 use crate::stored_plan;
-use arbiter::{Analysed, BidAnswer, BoxKind, Location, Plan, Record, Refused, Service};
+use arbiter::{Analysed, BidAnswer, BoxKind, Location, PerThousand, Plan, Record, Refused, Service};
 use std::fmt::Debug;
 
 const STATES: usize = 3; // looked at of each set
@@ -16,6 +16,7 @@ pub fn check(random: &mut Random, words: &[u32], worked: &Worked, set: &Set) -> 
     let analysed = Analysed::new(words).map_err(|refused| refused.to_string())?;
     same("map", analysed.map(), &worked.map)?;
     same("plan", analysed.plan().words(), &worked.plan)?;
+    same("parts per thousand", analysed.per_thousand(), PerThousand { quotient: worked.parts.quotient, remainder: worked.parts.remainder })?;
     same("plan put together from its boxes and dead states", words_of_plan(analysed.plan()), worked.plan.clone())?;
     parts(analysed.set(), set)?;
     for _ in 0..STATES {

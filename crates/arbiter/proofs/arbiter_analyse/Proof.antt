@@ -3,7 +3,7 @@ use borrow.Author.Needs.{needs}
 use mathlib.Core.Path.{ap, _∙_}
 use Rattle.model.specs.Analysis.{Analysed}
 use Rattle.model.specs.Told.{tellAnalysis}
-use Rattle.arbiter.specs.Told.{structOf}
+use Rattle.arbiter.specs.Told.{analysisOf}
 use Rattle.arbiter.proofs.arbiter_analyse.Statement.{statement}
 use Rattle.arbiter.proofs.arbiter_analyse.Tie as tie
 
@@ -22,7 +22,7 @@ same-length-2 c = search needs
 returns : tie.Need-returns
 returns c =
     let e = c .before .before .before .before .before .analyse .ensures in (
-      c .of-outcome .ensures ∙ ap (λ (a : Analysed). structOf (tellAnalysis (a .answer))) e,
+      c .of-outcome .ensures ∙ ap (λ (a : Analysed). analysisOf (tellAnalysis (a .answer))) e,
       ap (λ (a : Analysed). a .map) e,
       ap (λ (a : Analysed). a .plan) e,
     )

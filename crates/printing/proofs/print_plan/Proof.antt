@@ -44,7 +44,7 @@ whole : (c : tie.After-known-told) →
     × (c .before .count .given .0 .0 ≤ 16384)
 whole c =
     let a = accepted c .analyse in
-    has-plan _ _ _ _ _ _ (omega (arith, length-replicate {A = ℕ} 65536 255)) (length-replicate {A = ℕ} 16384 0) (a .ensures) _ (c .before .count .given .1)
+    has-plan _ _ _ _ _ _ (omega (arith, length-replicate {A = ℕ} 65536 255)) (length-replicate {A = ℕ} 16384 0) (a .ensures) _ _ _ (c .before .count .given .1)
 
 within : (c : tie.After-known-told) → c .before .count .given .0 .0 ≤ length (accepted c .analyse .last .1 .1 .0)
 within c = omega (arith, whole c .1, accepted c .analyse .kept .1 .1 .0, length-replicate {A = ℕ} 16384 0)

@@ -1,7 +1,7 @@
 //! The sets of the desk examples (`docs/SCOPE.md`, "Desk examples") and what several tests ask for.
 #![allow(dead_code)] // No test uses all of it.
 
-use arbiter::{Refusal, Refused};
+use arbiter::{PerThousand, Planned, Refusal, Refused};
 
 /// Example a: two tasks that take two devices in opposite order.
 pub const A: [u32; 13] = [
@@ -46,6 +46,11 @@ pub const U_PLAN: [u32; 17] = [
 
 /// How many states R and U have, each.
 pub const STATES_OF_R: usize = 63;
+
+/// An analysis that is accepted: the number of plan words, and the parts per thousand.
+pub fn planned(words: usize, quotient: u32, remainder: u32) -> Result<Planned, Refused> {
+    Ok(Planned { words, per_thousand: PerThousand { quotient, remainder } })
+}
 
 pub fn refused<T>(refusal: Refusal, place: usize) -> Result<T, Refused> {
     Err(Refused { refusal, place })
