@@ -1,7 +1,8 @@
 // The proved library beside the yardstick, in one run on the same input: the best time of each, and whether they agree; and the stack that the library's calls
 // take. bench/run builds and runs it. It prints lines with tabs between, which bench/tables.py and bench/growth.py turn into the tables of docs/PERFORMANCE.md:
 //
-//     bench calls FILE..      for each set and call: set, words, call, answer, and nanoseconds of both
+//     bench calls FILE..      for each set and call: set, words, call, answer, and nanoseconds of both; for sets of eight tasks that all have actions also for bids
+//                             whose shares are spent
 //     bench questions FILE..  for each set's plan and some states: set, tasks, plan words, where the state lies, answer, and nanoseconds of both
 //     bench cleanings FILE..  for each set, which may have devices that no task claims: set, words, words that go, answer, and nanoseconds of both
 //     bench growth FILE..     for each set file FAMILY-SIZE.set: family, size, states, plan words, and nanoseconds of both analyses
@@ -18,6 +19,7 @@ mod baseline;
 #[path = "../hosts/rust/src/sys.rs"]
 mod sys;
 
+use baseline::Settings;
 use std::arch::{asm, global_asm};
 use std::hint::black_box;
 use std::time::Instant;
@@ -28,6 +30,8 @@ const MAP: usize = 65536; // bytes: fits every set
 const PLAN: usize = 400_000; // more words than any plan has
 const SHORT_PLAN: usize = 64;
 const TURNS: u128 = 250; // milliseconds that the two take turns for
+const NO_SHARES: Settings = Settings { share: 255, window: 255 };
+const SHARES: Settings = Settings { share: 1, window: 8 };
 
 // A piece of code that is never run, 16 bytes longer for each step of SHIFT, a digit.
 const SHIFT: usize = 16 * (env!("SHIFT").as_bytes()[0] - b'0') as usize + 1;
@@ -52,6 +56,7 @@ fn of_bid(answer: Result<baseline::Bid, baseline::Refusal>) -> Answer {
         Ok(baseline::Bid::Finished) => plain(sys::FINISHED, 0),
         Ok(baseline::Bid::Busy(device)) => plain(sys::BUSY, device as u64),
         Ok(baseline::Bid::Held(rank)) => plain(sys::HELD, rank as u64),
+        Ok(baseline::Bid::ShareSpent) => plain(sys::SHARE_SPENT, 0),
         Err(refusal) => refused(refusal),
     }
 }
@@ -86,12 +91,18 @@ fn text(answer: &Answer) -> String {
         sys::IN_UNSAFE_BOX => format!("unsafe, word {}", answer.value),
         sys::IN_NO_BOX => "neither".to_string(),
         sys::CLEANED => format!("{} words", answer.value),
+        sys::GRANTED => "granted".to_string(),
+        sys::SHARE_SPENT => "share spent".to_string(),
         _ => "restarted".to_string(),
     }
 }
 
 fn other_record(record: &sys::Record) -> baseline::Record {
-    baseline::Record { positions: record.positions, grants: record.grants }
+    baseline::Record { positions: record.positions, grants: record.grants, counts: record.counts }
+}
+
+fn record_of(record: &baseline::Record) -> sys::Record {
+    sys::Record { positions: record.positions, grants: record.grants, counts: record.counts }
 }
 
 // --- The library's calls on slices ---
@@ -104,8 +115,9 @@ fn analyse(words: &[u32], map: &mut [u8], plan: &mut [u32]) -> Analysis {
     unsafe { sys::arbiter_analyse(words.as_ptr(), words.len(), map.as_mut_ptr(), map.len(), plan.as_mut_ptr(), plan.len()) }
 }
 
-fn bid(record: &mut sys::Record, words: &[u32], map: &[u8], task: usize) -> Answer {
-    unsafe { sys::arbiter_bid(record, words.as_ptr(), words.len(), map.as_ptr(), map.len(), task) }
+fn bid(record: &mut sys::Record, words: &[u32], map: &[u8], task: usize, settings: Settings) -> Answer {
+    let Settings { share, window } = settings;
+    unsafe { sys::arbiter_bid(record, words.as_ptr(), words.len(), map.as_ptr(), map.len(), task, share, window) }
 }
 
 fn again(record: &mut sys::Record, words: &[u32]) -> Answer {
@@ -193,41 +205,62 @@ impl Row<'_> {
         self.line(if room == PLAN { "analyse" } else { "analyse, slice of 64 words" }, &text(&answer), times, agree)
     }
 
-    /// A list of bids from the start to the end, the same for both; the time is that of one bid on average. A refused set has one bid.
-    fn bids(&self, map: &[u8], tasks: &[usize]) -> Line {
+    /// A list of bids, the same for both, from this record; the time is that of one bid on average. A refused set has one bid.
+    fn bids(&self, call: &str, map: &[u8], start: sys::Record, tasks: &[usize], settings: Settings) -> Line {
         let words = self.words;
-        let fresh = unsafe { sys::arbiter_fresh() };
-        let mut record = fresh;
-        let mut other = other_record(&fresh);
+        let mut record = start;
+        let mut other = other_record(&start);
         let mut agree = true;
-        let mut counts = [0usize; 9];
+        let mut granted = 0;
         let mut last = plain(0, 0);
         for &task in tasks {
-            last = bid(&mut record, words, map, task);
-            agree &= last == of_bid(baseline::bid(&mut other, words, map, task)) && other == other_record(&record);
-            counts[last.kind as usize] += 1;
+            last = bid(&mut record, words, map, task, settings);
+            agree &= last == of_bid(baseline::bid(&mut other, words, map, task, settings)) && other == other_record(&record);
+            granted += usize::from(last.kind == sys::GRANTED);
         }
         let (proved, yardstick) = best_of(
             || {
-                let mut record = fresh;
+                let mut record = start;
                 for &task in black_box(tasks) {
-                    let _ = black_box(bid(&mut record, black_box(words), map, task));
+                    let _ = black_box(bid(&mut record, black_box(words), map, task, black_box(settings)));
                 }
             },
             || {
-                let mut record = other_record(&fresh);
+                let mut record = other_record(&start);
                 for &task in black_box(tasks) {
-                    black_box(baseline::bid(&mut record, black_box(words), map, task)).ok();
+                    black_box(baseline::bid(&mut record, black_box(words), map, task, black_box(settings))).ok();
                 }
             },
         );
         let each = tasks.len() as f64;
-        let answers = if last.kind == sys::REFUSED {
-            text(&last)
-        } else {
-            format!("{} granted, {} not yet", counts[sys::GRANTED as usize], counts[sys::BUSY as usize] + counts[sys::HELD as usize])
-        };
-        self.line("bid", &answers, (proved / each, yardstick / each), agree)
+        // A single bid tells its answer.
+        let answers = if tasks.len() == 1 { text(&last) } else { format!("{granted} granted, {} not yet", tasks.len() - granted) };
+        self.line(call, &answers, (proved / each, yardstick / each), agree)
+    }
+
+    /// Where shares are spent, on a set of eight tasks that all have actions: a list of bids from the start to the end with a share of 1; a bid that is answered Share
+    /// spent for the sake of the last task, which alone can go on; and one that is granted although its share is spent, since the others wait for a device.
+    fn shared_bids(&self, map: &[u8], set: &baseline::Set) -> Vec<Line> {
+        let fresh = unsafe { sys::arbiter_fresh() };
+        let (tasks, _) = bids_to_the_end(self.words, map, set, SHARES);
+        // All tasks between the first and the last go to their ends, which uses a window up; then the first makes one step.
+        let between: Vec<usize> = (1..set.tasks - 1).flat_map(|task| vec![task; set.len[task] as usize]).collect();
+        let window = between.len() as u32;
+        let alone = self.after(map, self.after(map, fresh, &between, Settings { share: window, window }), &[0], Settings { share: 1, window });
+        let round: Vec<usize> = (0..set.tasks).collect();
+        vec![
+            self.bids("bid, share 1 of 8", map, fresh, &tasks, SHARES),
+            self.bids("bid, share spent", map, alone, &[0], Settings { share: 1, window }),
+            self.bids("bid, granted past its share", map, self.after(map, fresh, &round, SHARES), &[0], SHARES),
+        ]
+    }
+
+    /// The record after these bids.
+    fn after(&self, map: &[u8], mut record: sys::Record, tasks: &[usize], settings: Settings) -> sys::Record {
+        for &task in tasks {
+            let _ = bid(&mut record, self.words, map, task, settings);
+        }
+        record
     }
 
     fn again(&self, end: sys::Record) -> Line {
@@ -291,13 +324,13 @@ fn analyses(words: &[u32], room: usize) -> (Answer, bool, Times) {
 }
 
 /// Bids that bring every task to its end, the tasks in turn, and the record after them. A finished task isn't asked for again, as in service.
-fn bids_to_the_end(words: &[u32], map: &[u8], set: &baseline::Set) -> (Vec<usize>, baseline::Record) {
-    let mut record = baseline::Record { positions: [0; 8], grants: 0 };
+fn bids_to_the_end(words: &[u32], map: &[u8], set: &baseline::Set, settings: Settings) -> (Vec<usize>, baseline::Record) {
+    let mut record = baseline::Record { positions: [0; 8], grants: 0, counts: [0; 8] };
     let mut tasks = Vec::new();
     while record.positions != set.len {
         for task in 0..set.tasks {
             if record.positions[task] < set.len[task] {
-                baseline::bid(&mut record, words, map, task).unwrap();
+                baseline::bid(&mut record, words, map, task, settings).unwrap();
                 tasks.push(task);
             }
         }
@@ -321,8 +354,8 @@ fn service(words: &[u32]) -> (Vec<u8>, Vec<usize>, sys::Record) {
     if analyse(words, &mut map, &mut plan).answer.kind != sys::PLANNED {
         return (map, vec![0], unsafe { sys::arbiter_fresh() });
     }
-    let (tasks, end) = bids_to_the_end(words, &map, &baseline::read(words).unwrap());
-    (map, tasks, sys::Record { positions: end.positions, grants: end.grants })
+    let (tasks, end) = bids_to_the_end(words, &map, &baseline::read(words).unwrap(), NO_SHARES);
+    (map, tasks, record_of(&end))
 }
 
 /// Every call on one set.
@@ -330,10 +363,14 @@ fn lines_of(file: &str) -> Vec<Line> {
     let words = words_in(file);
     let row = Row { set: name_of(file), words: &words };
     let (map, tasks, end) = service(&words);
-    let mut lines = vec![row.analyse(PLAN), row.analyse(SHORT_PLAN), row.read(), row.bids(&map, &tasks)];
+    let fresh = unsafe { sys::arbiter_fresh() };
+    let mut lines = vec![row.analyse(PLAN), row.analyse(SHORT_PLAN), row.read(), row.bids("bid", &map, fresh, &tasks, NO_SHARES)];
     if let Ok(set) = baseline::read(&words) {
         lines.push(row.again(end));
         lines.push(row.route(&map, set.len.iter().map(|&len| len as usize).sum()));
+        if set.len.iter().all(|&len| len > 0) {
+            lines.extend(row.shared_bids(&map, &set));
+        }
     }
     lines
 }
@@ -463,11 +500,14 @@ fn stack(files: &[String]) {
             taken(0, stack_of(|| analyse(words, &mut map, &mut plan)));
         }
         taken(1, stack_of(|| read(words)));
-        let mut record = unsafe { sys::arbiter_fresh() };
+        let record = unsafe { sys::arbiter_fresh() };
         let mut steps = vec![0u8; words.len()];
         taken(4, stack_of(|| route(record, words, &map, &mut steps)));
-        for task in tasks {
-            taken(2, stack_of(|| bid(&mut record, words, &map, task)));
+        for settings in [NO_SHARES, SHARES] {
+            let mut record = record;
+            for &task in &tasks {
+                taken(2, stack_of(|| bid(&mut record, words, &map, task, settings)));
+            }
         }
         let mut record = end;
         taken(3, stack_of(|| again(&mut record, words)));

@@ -23,11 +23,13 @@ def print_analyses(rows):
 
 
 def print_calls(rows):
-    """A row a set: each call's ratio, with its time in brackets. A set that is refused has no again and no route."""
+    """A row a set: each call's ratio, with its time in brackets. A set that is refused has no again and no route. What stands behind a call's name makes a row of its own."""
     print_head("set", "words", *CALLS)
     sets = {}
     for name, words, call, _, proved, yardstick in rows:
-        sets.setdefault((name, words), {})[call] = "%.2f (%.2f)" % (proved / yardstick, proved / 1e3)
+        call, comma, what = call.partition(",")
+        if call in CALLS:
+            sets.setdefault((name + comma + what, words), {})[call] = "%.2f (%.2f)" % (proved / yardstick, proved / 1e3)
     for (name, words), cells in sets.items():
         print_row(name, words, *(cells.get(call, "") for call in CALLS))
 

@@ -2,8 +2,9 @@
 """constants.py [ROOT]: holds the numbers of the proved source, the C header and the Rust interface to docs/SCOPE.md and to each other.
 
 The same names with the same values must stand in all three, none missing and none left over but for what one side has for itself: X in the source,
-ARBITER_X in C, X in Rust; in the source and in Rust with the same type. So must the calls, each with the type of its answer, and in C marked as one
-whose answer must be used. The refusals' texts must be the same in C and Rust. The host in Python has all calls, and what numbers it has are these.
+ARBITER_X in C, X in Rust; in the source and in Rust with the same type. So must the calls, each with the names and types of what is lent, in their order, and the type of its
+answer, and in C marked as one whose answer must be used. The refusals' texts must be the same in C and Rust. The host in Python has all calls with
+these types, and what numbers it has are these.
 ROOT is the repository, by default the one that this file is in.
 """
 import ctypes
@@ -20,6 +21,7 @@ LIMITS = {
     "MAX_TASKS": 8,
     "MAX_ACTIONS": 255,
     "MAX_GRID": 65536,
+    "MAX_SETTING": 255,
     "FIELDS": 1 << 28,
     "NO_STEP": 255,
 }
@@ -28,18 +30,23 @@ MAP_BYTES = "OPEN FORBIDDEN UNSAFE DEAD".split()
 REFUSALS = """
     NO_WORDS TOO_MANY_WORDS WORD_AFTER_END UNKNOWN_KIND OUT_OF_ORDER FIELD_NOT_ALLOWED TOO_MANY CLAIM_OF_HELD RELEASE_OF_NOT_HELD STILL_HELD NO_END
     GRID_TOO_LARGE MAP_TOO_SHORT PLAN_TOO_SHORT BYTES_NOT_WORDS BAD_RECORD NO_SUCH_TASK BAD_MAP_BYTE NOT_AT_END NO_ROUTE ROUTE_TOO_SHORT
-    BAD_TASK_COUNT OUTSIDE_LAYOUT UNCLAIMED_DEVICE CLEAN_TOO_SHORT
+    BAD_TASK_COUNT OUTSIDE_LAYOUT UNCLAIMED_DEVICE CLEAN_TOO_SHORT BAD_SETTING
     """.split()
 
 # The kinds of an answer, and the version: major times 10,000, minor times 100, patch.
-ANSWER_KINDS = "REFUSED ACCEPTED PLANNED ROUTED GRANTED FINISHED BUSY HELD RESTARTED IN_FORBIDDEN_BOX IN_UNSAFE_BOX IN_NO_BOX CLEANED".split()
-VERSION = {"VERSION": 40000}
+ANSWER_KINDS = """
+    REFUSED ACCEPTED PLANNED ROUTED GRANTED FINISHED BUSY HELD RESTARTED IN_FORBIDDEN_BOX IN_UNSAFE_BOX IN_NO_BOX CLEANED SHARE_SPENT
+    """.split()
+VERSION = {"VERSION": 50000}
 
 # What hosts use and the proved source doesn't know: in the header, and in the package's plain.rs.
 OF_HOSTS = {"NOT_ANALYSED": 0xFF}
 
 # What the proved source has for itself: no host lends it, and no answer has it.
 OF_SOURCE = {"THOUSAND": 1000}
+
+# What the proved source calls otherwise than hosts do: a name that is a crate's there, and a short one.
+OF_HOSTS_NAMED = {"rec": "record", "steps": "route"}
 
 # Macros of the header that stand for no number.
 NO_NUMBERS = {"ARBITER_MUST_USE"}
@@ -110,27 +117,68 @@ def compare(found, wanted, where, what="value"):
             complaints.append(f"{where}: {name} has the {what} {found[name]!r}, not {wanted[name]!r}")
 
 
-def of_calls(paths, start, where):
-    """The calls that begin with this at the start of a line, in Rattle or Rust: name to the type of the answer."""
+def lent_in_source(parameter):
+    """A parameter of the proved source as C lends it, in Rust's words: a slice is its address and its number of elements."""
+    name, kind = parameter.split(": ")
+    name = OF_HOSTS_NAMED.get(name, name)
+    slice_of = re.fullmatch(r"&(mut )?\[(\w+)\]", kind)
+    if slice_of:
+        return [f"{name}: *{slice_of[1] or 'const '}{slice_of[2]}", f"{name}_len: usize"]
+    return [f"{name}: {kind.replace('&mut ', '*mut ')}"]
+
+
+def lent_in_header(parameter):
+    """A parameter of the header in Rust's words."""
+    constant, kind, pointer, name = re.fullmatch(r"(const )?(\w+) (\*?)(\w+)", parameter).groups()
+    access = ("*const " if constant else "*mut ") if pointer else ""
+    return [f"{name}: {access}{rust_type(kind)}"]
+
+
+def rust_type(kind):
+    plain = {"uint8_t": "u8", "uint32_t": "u32", "size_t": "usize"}
+    return plain.get(kind) or camel(kind.replace("arbiter_", ""))
+
+
+def signature(parameters, lent, answer):
+    """What a call is lent, comma by comma, and its answer."""
+    parts = [part.strip() for part in parameters.split(",")]
+    return [text for part in parts if part not in ("", "void") for text in lent(part)] + [answer]
+
+
+def of_calls(paths, start, lent, where):
+    """The calls that begin with this at the start of a line, in Rattle or Rust: name to signature."""
     text = "\n".join(path.read_text() for path in paths)
-    return once(re.findall(rf"^\s*{start}(arbiter_\w+)\([^)]*\)\s*->\s*(\w+)", text, re.M), where)
+    rows = re.findall(rf"^\s*{start}(arbiter_\w+)\(([^)]*)\)\s*->\s*(\w+)", text, re.M)
+    return once([(name, signature(parameters, lent, answer)) for name, parameters, answer in rows], where)
 
 
 def of_header_calls(path):
-    """The calls of the header whose answer must be used: name to the type of the answer, in Rust's words."""
-    rows = re.findall(r"^ARBITER_MUST_USE (\w+) (arbiter_\w+)\(", path.read_text(), re.M)
-    return once([(name, "u32" if kind == "uint32_t" else camel(kind.replace("arbiter_", ""))) for kind, name in rows], path.name)
+    """The calls of the header whose answer must be used: name to signature."""
+    rows = re.findall(r"^ARBITER_MUST_USE (\w+) (arbiter_\w+)\(([^)]*)\);", path.read_text(), re.M)
+    return once([(name, signature(parameters, lent_in_header, rust_type(answer))) for answer, name, parameters in rows], path.name)
+
+
+def nameless(texts):
+    """A signature without its names, and without what may be written: all that the types of Python tell."""
+    return [text.split(": ")[-1].replace("*const ", "*mut ") for text in texts]
+
+
+def of_ctypes(kind):
+    plain = {ctypes.c_uint32: "u32", ctypes.c_uint8: "u8", ctypes.c_size_t: "usize"}
+    if issubclass(kind, ctypes._Pointer):
+        return "*mut " + of_ctypes(kind._type_)
+    return plain.get(kind) or kind.__name__
 
 
 def of_python(path):
-    """The numbers of the host in Python, and its calls with the types of their answers; but for the text, which isn't the library's."""
+    """The numbers of the host in Python, and its calls with their types; but for the text, which isn't the library's."""
     sys.dont_write_bytecode = True
     spec = importlib.util.spec_from_file_location(path.stem, path)
     module = importlib.util.module_from_spec(spec)
     spec.loader.exec_module(module)
     numbers = {name: value for name, value in vars(module).items() if name.isupper() and isinstance(value, int)}
-    answers = {name: answer for name, (_, answer) in module.CALLS.items() if name != "arbiter_refusal_text"}
-    return numbers, {name: "u32" if answer is ctypes.c_uint32 else answer.__name__ for name, answer in answers.items()}
+    calls = {name: [*lent, answer] for name, (lent, answer) in module.CALLS.items() if name != "arbiter_refusal_text"}
+    return numbers, {name: [of_ctypes(kind) for kind in kinds] for name, kinds in calls.items()}
 
 
 def camel(name):
@@ -151,14 +199,14 @@ def main(root):
     compare(of_header(header), {**WANTED, **OF_HOSTS}, "arbiter.h")
     compare(of_source([root / "hosts/rust/src/plain.rs"], "plain.rs")[0], OF_HOSTS, "plain.rs")
 
-    calls = of_calls(sorted((root / "crates/arbiter/src").glob("*.rt")), r'pub extern "C" fn ', "the source")
-    compare(of_header_calls(header), calls, "arbiter.h", "answer that must be used")
-    compare(of_calls([root / "hosts/rust/src/sys.rs"], r"pub fn ", "sys.rs"), calls, "sys.rs", "answer")
+    calls = of_calls(sorted((root / "crates/arbiter/src").glob("*.rt")), r'pub extern "C" fn ', lent_in_source, "the source")
+    compare(of_header_calls(header), calls, "arbiter.h", "signature, its answer one that must be used,")
+    compare(of_calls([root / "hosts/rust/src/sys.rs"], r"pub fn ", lambda part: [part], "sys.rs"), calls, "sys.rs", "signature")
 
     python_numbers, python_calls = of_python(root / "hosts/python/serve.py")
     known = {**WANTED, **OF_HOSTS}
     compare(python_numbers, {name: known[name] for name in python_numbers.keys() & known.keys()}, "serve.py")
-    compare(python_calls, calls, "serve.py", "answer")
+    compare(python_calls, {name: nameless(texts) for name, texts in calls.items()}, "serve.py", "signature")
 
     variants = once(re.findall(r"^\s*(\w+) = sys::(\w+),", safe.read_text(), re.M), "lib.rs")
     compare(variants, {camel(name): name for name in REFUSALS}, "lib.rs", "number")

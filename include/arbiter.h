@@ -2,8 +2,9 @@
  *
  * A set is a list of 32-bit words that says which devices there are and in which order each task claims and releases them
  * (docs/AUTHORS.md). arbiter_analyse writes its map, a byte for each state of progress, and its plan, a list of boxes. In service
- * arbiter_bid is asked before every step of a task and says whether it may be made now. arbiter_locate questions a plan that was stored, without
- * its set. arbiter_clean mends a set that was stored with devices which no task claims. docs/HOSTS.md tells the whole life of a set.
+ * arbiter_bid is asked before every step of a task and says whether it may be made now; it sees to it that no task takes all the grants while
+ * others could go on. arbiter_locate questions a plan that was stored, without its set. arbiter_clean mends a set that was stored with devices which
+ * no task claims. docs/HOSTS.md tells the whole life of a set.
  *
  * What every call does and asks:
  * - It uses no heap, no global state, no signal and no callback, and always returns. arbiter_analyse needs some 300 KiB of stack, the others
@@ -33,15 +34,18 @@
 
 /* The version of this header: major times 10,000, minor times 100, patch. Header and library must be of the same one, since structs and
  * numbers may differ between two: compare it with arbiter_version() once, when the host starts, and stop if they differ. */
-#define ARBITER_VERSION 40000
+#define ARBITER_VERSION 50000
 
 /* The limits of a set. */
 #define ARBITER_MAX_WORDS 4096
 #define ARBITER_MAX_DEVICES 16
 #define ARBITER_MAX_CAPACITY 8
-#define ARBITER_MAX_TASKS 8     /* also the number of positions in a record and in a state */
+#define ARBITER_MAX_TASKS 8     /* also the number of positions in a record and in a state, and of counts in a record */
 #define ARBITER_MAX_ACTIONS 255 /* claims and releases of one task */
 #define ARBITER_MAX_GRID 65536  /* states: a map slice of this many bytes fits every set */
+
+/* The largest share and the largest window of a bid; the smallest of each is 1. With both at their largest no share is ever spent. */
+#define ARBITER_MAX_SETTING 255
 
 /* A word is its kind times this, plus its field: word / ARBITER_FIELDS is the kind, word % ARBITER_FIELDS the field. */
 #define ARBITER_FIELDS 0x10000000
@@ -91,6 +95,7 @@
 #define ARBITER_IN_UNSAFE_BOX 10   /* arbiter_locate: an unsafe box holds the state, and no forbidden one; value: the same of the first that does */
 #define ARBITER_IN_NO_BOX 11       /* arbiter_locate: no box holds the state */
 #define ARBITER_CLEANED 12         /* arbiter_clean: the cleaned set is written; value: its number of words */
+#define ARBITER_SHARE_SPENT 13     /* arbiter_bid: the task waits and asks again later: it has had its share, and another task is to go first */
 
 /* The refusals of a set, 1 to 12 and 24. The place is the faulty word's index, counted from 0, unless said otherwise.
  * All are the set's fault, and each comes in the same way from every call that is lent that set: return it to its author. Only arbiter_clean
@@ -113,13 +118,15 @@
 #define ARBITER_MAP_TOO_SHORT 13   /* place: the length that the map needs; lend that much */
 #define ARBITER_PLAN_TOO_SHORT 14  /* place: the plan slice's length; the map is finished all the same: lend a longer slice, or do without the plan */
 #define ARBITER_BYTES_NOT_WORDS 15 /* place: the number of whole words; for whoever reads a set from bytes, no call of the library answers it */
-#define ARBITER_BAD_RECORD 16      /* place: 0; the record isn't one that a service of this set and map leaves: stop, see who wrote it */
+#define ARBITER_BAD_RECORD 16      /* place: 0; the record isn't one that a service of this set and map leaves: stop, see who wrote it; in a bid also if
+                                    * its counts together aren't less than the window, which happens where a host makes the window smaller */
 #define ARBITER_NO_SUCH_TASK 17    /* place: the number asked for; the host's slip */
 #define ARBITER_BAD_MAP_BYTE 18    /* place: the state's rank; the map is damaged or another set's: stop, analyse the set anew */
 #define ARBITER_NOT_AT_END 19      /* place: the state's rank; some task isn't finished: bid on */
 #define ARBITER_NO_ROUTE 20        /* place: the state's rank; the state is unsafe: no record in service ever is */
 #define ARBITER_ROUTE_TOO_SHORT 21 /* place: the length that the route needs; lend that much */
 #define ARBITER_CLEAN_TOO_SHORT 25 /* place: the length that the cleaned set needs; lend that much */
+#define ARBITER_BAD_SETTING 26     /* place: 0; a bid's share or window isn't 1 to 255: the host's slip */
 
 /* The refusals of a stored plan. */
 #define ARBITER_BAD_TASK_COUNT 22 /* place: 0; the task count isn't 1 to 8: the host's slip */
@@ -146,11 +153,13 @@ typedef struct arbiter_analysis {
     uint32_t remainder;
 } arbiter_analysis;
 
-/* The broker's record: for each task how many of its actions are done, 0 for tasks that the set doesn't have; and the number of
- * grants so far, which goes from 4,294,967,295 to 0. Start from arbiter_fresh, and let nobody but the calls write it. */
+/* The broker's record: for each task how many of its actions are done; the number of grants so far, which goes from 4,294,967,295 to 0; and for each
+ * task its grants in the present window. Positions and counts of tasks that the set doesn't have are 0. Start from arbiter_fresh, and let nobody but
+ * the calls write it. A record that a version before 5.0.0 stored has 12 bytes: the same 12 with eight zero bytes behind them are this record. */
 typedef struct arbiter_record {
     uint8_t positions[ARBITER_MAX_TASKS];
     uint32_t grants;
+    uint8_t counts[ARBITER_MAX_TASKS];
 } arbiter_record;
 
 /* A state to question a stored plan with: for each task how many of its actions are done. Positions past the task count are unread. */
@@ -174,9 +183,10 @@ ARBITER_ASSERT(size_of_analysis, sizeof(arbiter_analysis) == 24);
 ARBITER_ASSERT(place_of_answer, offsetof(arbiter_analysis, answer) == 0);
 ARBITER_ASSERT(place_of_quotient, offsetof(arbiter_analysis, quotient) == 16);
 ARBITER_ASSERT(place_of_remainder, offsetof(arbiter_analysis, remainder) == 20);
-ARBITER_ASSERT(size_of_record, sizeof(arbiter_record) == 12);
+ARBITER_ASSERT(size_of_record, sizeof(arbiter_record) == 20);
 ARBITER_ASSERT(place_of_positions, offsetof(arbiter_record, positions) == 0);
 ARBITER_ASSERT(place_of_grants, offsetof(arbiter_record, grants) == 8);
+ARBITER_ASSERT(place_of_counts, offsetof(arbiter_record, counts) == 12);
 ARBITER_ASSERT(size_of_state, sizeof(arbiter_state) == 8);
 ARBITER_ASSERT(place_of_state_positions, offsetof(arbiter_state, positions) == 0);
 ARBITER_ASSERT(size_of_length, sizeof(size_t) == 8);
@@ -229,22 +239,30 @@ ARBITER_MUST_USE arbiter_answer arbiter_read(const uint32_t *set, size_t set_len
 ARBITER_MUST_USE arbiter_analysis arbiter_analyse(const uint32_t *set, size_t set_len, uint8_t *map, size_t map_len, uint32_t *plan,
                                                   size_t plan_len);
 
-/* A record at the start of every task, with no grants: all zeros. */
+/* A record at the start of every task, with no grants and no counts: all zeros. */
 ARBITER_MUST_USE arbiter_record arbiter_fresh(void);
 
 /* May this task make its next action? GRANTED (the record then counts it as made), FINISHED, BUSY with the device, HELD with the next
- * state's rank, or REFUSED 1 to 13, 16, 17, 18 or 24. Only GRANTED changes the record.
+ * state's rank, SHARE_SPENT, or REFUSED 1 to 13, 16, 17, 18, 24 or 26. Only GRANTED changes the record.
+ * share and window are 1 to 255 each, else it is 26. A grant adds 1 to the task's count; if the counts then add up to the window, all of them become
+ * 0 with that same grant. A bid that would be granted is SHARE_SPENT instead if the task's count is the share or more, and another task, whose count
+ * is less than the share, would be granted now. So another task is to go first: with the same share the answer stays the same until one is granted
+ * something. It may come for a release too. A share that isn't less than the window is never spent.
+ * 16 comes for positions that the set doesn't have, for a count of a task that it doesn't have, if the record's state isn't open in the map, and if
+ * the counts together (arbiter_window_grants) aren't less than the window: docs/HOSTS.md, "Share and window", says how a host makes it smaller.
  * Slices that may be empty: ARBITER_LEND(set), ARBITER_LEND(map). */
 ARBITER_MUST_USE arbiter_answer arbiter_bid(arbiter_record *record, const uint32_t *set, size_t set_len, const uint8_t *map, size_t map_len,
-                                            size_t task);
+                                            size_t task, uint32_t share, uint32_t window);
 
-/* Starts every task anew once all are finished; the grant number stays. RESTARTED, or REFUSED 1 to 12, 16, 19 or 24, which changes nothing.
+/* Starts every task anew once all are finished; the grant number stays, and the counts become 0. RESTARTED, or REFUSED 1 to 12, 16, 19 or 24, which
+ * changes nothing. 16 comes for positions and counts that the set doesn't have; there is no window here to hold the counts to.
  * A set that may be empty: ARBITER_LEND(set). */
 ARBITER_MUST_USE arbiter_answer arbiter_again(arbiter_record *record, const uint32_t *set, size_t set_len);
 
 /* The steps from the record's state to the end, one byte a step: always the lowest task that can go on. ROUTED with their number, or
- * REFUSED 1 to 13, 16, 18, 20, 21 or 24. A route slice of set_len bytes is always long enough. The bytes beyond the route stay as they were;
- * a refusal fills the whole slice with ARBITER_NO_STEP.
+ * REFUSED 1 to 13, 16, 18, 20, 21 or 24. 16 comes for positions and counts that the set doesn't have, and if the state is forbidden in the map.
+ * A route looks at no shares, so a bid on the way that it shows may still be SHARE_SPENT. A route slice of set_len bytes is always long enough. The
+ * bytes beyond the route stay as they were; a refusal fills the whole slice with ARBITER_NO_STEP.
  * Slices that may be empty: ARBITER_LEND(set), ARBITER_LEND(map), ARBITER_LEND(route). */
 ARBITER_MUST_USE arbiter_answer arbiter_route(arbiter_record record, const uint32_t *set, size_t set_len, const uint8_t *map, size_t map_len,
                                               uint8_t *route, size_t route_len);
@@ -342,6 +360,13 @@ static inline uint32_t arbiter_action(const uint32_t *set, size_t set_len, size_
 /* How many actions the task has done in the record's state: its position; 0 for a number that is no task's. */
 static inline size_t arbiter_done(const arbiter_record *record, size_t task) {
     return task < ARBITER_MAX_TASKS ? record->positions[task] : 0;
+}
+
+/* How many grants the present window has had: the counts added up. A bid's window must be more than that. */
+static inline uint32_t arbiter_window_grants(const arbiter_record *record) {
+    uint32_t grants = 0;
+    for (size_t task = 0; task < ARBITER_MAX_TASKS; task++) grants += record->counts[task];
+    return grants;
 }
 
 /* What the task was granted last: right after GRANTED, the CLAIM or RELEASE to make now, with its device as the field. 0 at the task's start. */
@@ -449,6 +474,7 @@ static inline const char *arbiter_kind_text(uint32_t kind) {
     case ARBITER_IN_UNSAFE_BOX: return "in unsafe box";
     case ARBITER_IN_NO_BOX: return "in no box";
     case ARBITER_CLEANED: return "cleaned";
+    case ARBITER_SHARE_SPENT: return "share spent";
     default: return "no answer has this kind";
     }
 }
@@ -471,7 +497,7 @@ static inline const char *arbiter_refusal_text(uint32_t refusal) {
     case ARBITER_MAP_TOO_SHORT: return "the map slice is shorter than the set's number of states";
     case ARBITER_PLAN_TOO_SHORT: return "the plan has more words than its slice";
     case ARBITER_BYTES_NOT_WORDS: return "the number of bytes isn't a multiple of 4: the file was cut, or isn't a set";
-    case ARBITER_BAD_RECORD: return "the record doesn't fit the set and its map: it was damaged, or is another set's, or no analysis wrote the map";
+    case ARBITER_BAD_RECORD: return "the record doesn't fit the set and its map: it was damaged, or is another set's, or no analysis wrote the map; or its counts reach the window";
     case ARBITER_NO_SUCH_TASK: return "the set has no task of this number";
     case ARBITER_BAD_MAP_BYTE: return "the map isn't the one made for this set: it was damaged, or is another set's";
     case ARBITER_NOT_AT_END: return "not every task is finished";
@@ -481,6 +507,7 @@ static inline const char *arbiter_refusal_text(uint32_t refusal) {
     case ARBITER_OUTSIDE_LAYOUT: return "no plan for so many tasks goes on like this: it was cut or damaged, or is for another number of tasks";
     case ARBITER_UNCLAIMED_DEVICE: return "no task claims this device: mend the claim that should name it, or let 'clean < OLDFILE > NEWFILE' take such devices out";
     case ARBITER_CLEAN_TOO_SHORT: return "the cleaned set has more words than its slice";
+    case ARBITER_BAD_SETTING: return "the share or the window that came with the bid is outside 1 to 255";
     default: return "no refusal has this number";
     }
 }

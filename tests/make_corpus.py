@@ -11,35 +11,38 @@ Input. Little-endian 32-bit words: the number of cases, then the cases. A case i
     the calls, four words each: its kind and three values, 0 where there are fewer.
 The limits are the MAX_ numbers below. Each case starts with a fresh record, a map slice of bytes AA and a plan slice of words AAAAAAAA. The set is analysed
 into the two slices, then the calls are made in order, accepted or not, on what the analysis left:
-    0 BID task                         a bid by value
+    0 BID task, share, window          a bid by value
     1 AGAIN
     2 ROUTE length                     a route into a slice of that length, filled with AA before
-    3 RECORD positions, positions, grants  the record is replaced; tasks 0 to 3, then 4 to 7, a byte each, lowest first
+    3 RECORD positions, positions, grants  the record is replaced; tasks 0 to 3, then 4 to 7, a byte each, lowest first; its counts are 0
     4 POKE rank, byte                  one byte of the map is replaced
     5 LEND length                      later bids and routes are lent only that much of the map slice
-    6 BID_IN_PLACE task                a bid over a record that is lent to it
-    7 ROUNDS times, tasks, count       so many times the bids of the first `count` hexadecimal digits of `tasks`, the lowest digit first
+    6 BID_IN_PLACE task, share, window  a bid over a record that is lent to it
+    7 ROUNDS times, tasks, bytes       so many times the bids of the first hexadecimal digits of `tasks`, the lowest digit first; how many digits, the share and the
+                                       window are the bytes of the third value, the lowest first
     8 LOCATE tasks, positions, positions  a question to the stored plan, which is the plan slice at first
     9 STORE index, word                one word of the plan slice is replaced
    10 KEEP length                      from now on only that much of the plan slice is the stored plan
    11 SWEEP tasks, positions, positions  a question at every state of the tasks up to those positions, the last task's fastest; positions past the tasks are 255
    12 CLEAN length                     the set is cleaned into a slice of that length, filled with AAAAAAAA before; if accepted, what was written is the set of all later calls
    13 ANALYSE                          the set is analysed anew into the two slices, filled as at the start
+   14 COUNTS counts, counts            the record's counts are replaced, as positions are
 
 Output, a line each:
     case NUMBER: PLANNED               planned WORDS, unsafe QUOTIENT/1000 rest REMAINDER, or refused N at P
     map:DIGITS                         the whole slice: 0 to 3, '.' for AA, '?' for anything else; over 256 bytes '~' and the checksum
     plan: WORD WORD ..                 the whole slice in hexadecimal; over 32 words '~' and the checksum
 and for each call that prints
-    ANSWER [POSITIONS] GRANTS          for a bid or an again: granted, finished, busy D, held R, restarted or refused N at P, and the record after it
+    ANSWER RECORD                      for a bid or an again: granted, finished, busy D, held R, share spent, restarted or refused N at P, and the record after it:
+                                       [POSITIONS] GRANTS, and behind these [COUNTS] unless all are 0
     ANSWER:STEPS                       for a route: routed LENGTH or refused N at P; the whole slice, a digit a task, '.' for AA, 'x' for 255, '?' otherwise
-    rounds G F B H R [POSITIONS] GRANTS  how many bids were granted, finished, busy, held and refused, and the record after them
+    rounds G F B H S R RECORD          how many bids were granted, finished, busy, held, answered share spent and refused, and the record after them
     ANSWER                             for a question: forbidden INDEX, unsafe INDEX, neither or refused N at P
     swept CHECKSUM:DIGITS              for a sweep: the checksum of the indices, a word each, 0 for none, P for a refusal; and for each state
                                        1 forbidden, 2 unsafe, 0 neither, 'x' refused; over 512 states '~' and the checksum of these bytes, 255 for 'x'
     ANSWER: WORD WORD ..               for a cleaning: cleaned WORDS or refused N at P; the whole slice, as a plan's
     PLANNED                            for an analysis, as for a case, and behind it the lines of the map and the plan
-RECORD, POKE, LEND, STORE and KEEP print nothing. The checksum is FNV-1a of 32 bits over the slice's bytes, a word's lowest byte first, in eight hexadecimal digits.
+RECORD, COUNTS, POKE, LEND, STORE and KEEP print nothing. The checksum is FNV-1a of 32 bits over the slice's bytes, a word's lowest byte first, in eight hexadecimal digits.
 """
 
 import functools
@@ -49,7 +52,7 @@ import os
 import sys
 
 import brute
-from brute import CLAIM, DEVICE, END, FRESH, RELEASE, TASK, Record, Set, grid_of, lengths_of, word_bytes, words_of
+from brute import CLAIM, DEVICE, END, FRESH, RELEASE, TASK, Record, Set, Settings, grid_of, lengths_of, word_bytes, words_of
 
 MAX_SET = 4097
 MAX_MAP = 65600
@@ -66,11 +69,14 @@ CLEANING_CALLS = 2
 ROW = 512
 MAX_ROUTE = ROW
 
-BID, AGAIN, ROUTE, RECORD, POKE, LEND, BID_IN_PLACE, ROUNDS, LOCATE, STORE, KEEP, SWEEP, CLEAN, ANALYSE = range(14)
+BID, AGAIN, ROUTE, RECORD, POKE, LEND, BID_IN_PLACE, ROUNDS, LOCATE, STORE, KEEP, SWEEP, CLEAN, ANALYSE, COUNTS = range(15)
 
 MAP_FILL, PLAN_FILL = 0xAA, 0xAAAAAAAA
 
 SEED = 0x7469726C757A6B61
+
+# Settings and counts are drawn from dice of their own, so that the sets stay those of the versions without them.
+SHARE_SEED = 0x6661697273686172
 
 HERE = os.path.dirname(os.path.abspath(__file__))
 FILES = [os.path.join(HERE, "..", "crates", "corpus", name) for name in ("stdin", "stdout")]
@@ -132,8 +138,8 @@ def fnv(data):
     return value
 
 
-def positions_in(low, high):
-    """The eight positions that two words of a call give, a byte each."""
+def eight_in(low, high):
+    """The eight positions or counts that two words of a call give, a byte each."""
     return tuple(word_bytes([low, high]))
 
 
@@ -161,8 +167,13 @@ def answer_text(answer):
     return " ".join(str(part) for part in answer)
 
 
+def eight_text(numbers):
+    return "[%s]" % " ".join(str(number) for number in numbers)
+
+
 def record_text(record):
-    return "[%s] %d" % (" ".join(str(position) for position in record.positions), record.grants)
+    counts = " " + eight_text(record.counts) if any(record.counts) else ""
+    return "%s %d%s" % (eight_text(record.positions), record.grants, counts)
 
 
 @functools.lru_cache(maxsize=1)
@@ -199,16 +210,17 @@ class Play:
             self.words = tuple(slice_[: answer[1]])
         return "%s:%s" % (answer_text(answer), plan_text(slice_))
 
-    def bid(self, task):
-        answer, self.record = brute.bid(self.words, self.map[: self.lent], self.record, task)
+    def bid(self, task, share, window):
+        answer, self.record = brute.bid(self.words, self.map[: self.lent], self.record, task, Settings(share, window))
         return answer
 
-    def rounds(self, times, tasks, count):
-        counts = {"granted": 0, "finished": 0, "busy": 0, "held": 0, "refused": 0}
+    def rounds(self, times, tasks, packed):
+        count, share, window, _ = word_bytes([packed])
+        met = {"granted": 0, "finished": 0, "busy": 0, "held": 0, "share spent": 0, "refused": 0}
         for _ in range(times):
             for place in range(count):
-                counts[self.bid(tasks >> 4 * place & 15)[0]] += 1
-        return "rounds %s" % " ".join(str(counts[name]) for name in counts)
+                met[self.bid(tasks >> 4 * place & 15, share, window)[0]] += 1
+        return "rounds %s" % " ".join(str(met[name]) for name in met)
 
     def locate(self, state, tasks):
         return brute.locate(state, self.plan[: self.kept], tasks)
@@ -222,7 +234,7 @@ class Play:
 
     def call(self, kind, a, b, c):
         if kind in (BID, BID_IN_PLACE):
-            self.lines.append("%s %s" % (answer_text(self.bid(a)), record_text(self.record)))
+            self.lines.append("%s %s" % (answer_text(self.bid(a, b, c)), record_text(self.record)))
         elif kind == AGAIN:
             answer, self.record = brute.again(self.words, self.record)
             self.lines.append("%s %s" % (answer_text(answer), record_text(self.record)))
@@ -230,7 +242,9 @@ class Play:
             answer, steps = brute.route(self.words, self.map[: self.lent], self.record, [MAP_FILL] * a)
             self.lines.append("%s:%s" % (answer_text(answer), route_text(steps)))
         elif kind == RECORD:
-            self.record = Record(positions_in(a, b), c)
+            self.record = Record(eight_in(a, b), c, (0,) * 8)
+        elif kind == COUNTS:
+            self.record = Record(self.record.positions, self.record.grants, eight_in(a, b))
         elif kind == POKE:
             self.map = self.map[:a] + [b] + self.map[a + 1 :]
         elif kind == LEND:
@@ -238,13 +252,13 @@ class Play:
         elif kind == ROUNDS:
             self.lines.append("%s %s" % (self.rounds(a, b, c), record_text(self.record)))
         elif kind == LOCATE:
-            self.lines.append(answer_text(self.locate(positions_in(b, c), a)))
+            self.lines.append(answer_text(self.locate(eight_in(b, c), a)))
         elif kind == STORE:
             self.plan = self.plan[:a] + [b] + self.plan[a + 1 :]
         elif kind == KEEP:
             self.kept = a
         elif kind == SWEEP:
-            self.lines.append(self.sweep(a, positions_in(b, c)))
+            self.lines.append(self.sweep(a, eight_in(b, c)))
         elif kind == CLEAN:
             self.lines.append(self.clean(a))
         elif kind == ANALYSE:
@@ -454,13 +468,17 @@ def large_sets():
 # --- Calls ---
 
 
-def position_words(positions):
-    """Two words, a byte for each of up to eight positions."""
-    return tuple(sum(position << 8 * place for place, position in enumerate(part)) for part in (positions[:4], positions[4:]))
+def eight_words(numbers):
+    """Two words, a byte for each of up to eight positions or counts."""
+    return tuple(sum(number << 8 * place for place, number in enumerate(part)) for part in (numbers[:4], numbers[4:]))
 
 
 def record_call(positions, grants):
-    return (RECORD,) + position_words(positions) + (grants,)
+    return (RECORD,) + eight_words(positions) + (grants,)
+
+
+def counts_call(counts):
+    return (COUNTS,) + eight_words(counts)
 
 
 def any_task(dice, s):
@@ -485,11 +503,16 @@ def random_calls(dice, s, count):
     return calls
 
 
-def round_calls(dice, s, rounds):
-    """So many rounds: each names every task at least once, in some order, now and then one more or a number that is none's."""
+def one_more(dice, count):
+    """Now and then a task more in a round of so many, or a number that is none's."""
+    return [dice.below(10)] if count < 8 and dice.one_in(3) else []
+
+
+def round_calls(dice, s, rounds, more=one_more):
+    """So many rounds: each names every task at least once, in some order, and what `more` gives."""
     calls = []
     while rounds > 0:
-        tasks = dice.mixed(list(range(len(s.tasks))) + ([dice.below(10)] if len(s.tasks) < 8 and dice.one_in(3) else []))
+        tasks = dice.mixed(list(range(len(s.tasks))) + more(dice, len(s.tasks)))
         times = dice.between(1, min(rounds, 4))
         calls.append((ROUNDS, times, sum(task << 4 * place for place, task in enumerate(tasks)), len(tasks)))
         rounds -= times
@@ -594,7 +617,7 @@ def strewn(dice, positions):
 
 
 def locate_call(dice, tasks, positions):
-    return (LOCATE, tasks) + position_words(strewn(dice, positions))
+    return (LOCATE, tasks) + eight_words(strewn(dice, positions))
 
 
 def boxes_in(plan):
@@ -605,7 +628,7 @@ def boxes_in(plan):
 
 def own_plan_calls(s):
     """Questions to the plan that an analysis with room for it left, at every state."""
-    return [(KEEP, plan_length(s)), (SWEEP, len(s.tasks)) + position_words(lengths_of(s))]
+    return [(KEEP, plan_length(s)), (SWEEP, len(s.tasks)) + eight_words(lengths_of(s))]
 
 
 def put(plan, place, *words):
@@ -747,7 +770,7 @@ def edge_positions(dice, plan, tasks):
 def all_around(dice, plan, tasks):
     """Questions to a plan of the layout: at every state of a small grid, at corners, for wrong task counts."""
     side = {1: 7, 2: 7, 3: 7, 4: 3, 5: 2}.get(tasks, 1)
-    calls = [(SWEEP, tasks) + position_words([side] * tasks)] + [locate_call(dice, tasks, edge_positions(dice, plan, tasks)) for _ in range(6)]
+    calls = [(SWEEP, tasks) + eight_words([side] * tasks)] + [locate_call(dice, tasks, edge_positions(dice, plan, tasks)) for _ in range(6)]
     wrong = [0, 9, 256 + tasks, 0x10000 + tasks, 0xFFFFFFFF] + [count for count in range(1, 9) if count != tasks]
     return calls + [locate_call(dice, count, edge_positions(dice, plan, tasks)) for count in dice.mixed(wrong)[:4]]
 
@@ -1149,15 +1172,234 @@ def counted_cases(dice):
     return cases
 
 
+# --- Settings, and counts of grants ---
+
+
+def small_settings(dice):
+    """Settings with which shares are spent and windows close."""
+    return Settings(dice.pick([1, 1, 1, 2, 2, 3, 4]), dice.pick([1, 2, 2, 3, 3, 4, 5, 8]))
+
+
+def any_settings(dice):
+    """Mostly small settings, the largest often."""
+    return Settings(255, 255) if dice.one_in(3) else small_settings(dice)
+
+
+def refused_settings(dice):
+    """Settings of which one or both are outside 1 to 255."""
+    share, window = (dice.pick([0, 256, 257, 0x10001, 0xFFFFFFFF]) for _ in range(2))
+    good = any_settings(dice)
+    return dice.pick([Settings(share, good.window), Settings(good.share, window), Settings(share, window)])
+
+
+def strewn_counts(dice, tasks, total):
+    """Counts of so many tasks that add up to this."""
+    counts = [0] * 8
+    for _ in range(total):
+        counts[dice.below(tasks)] += 1
+    return counts
+
+
+def some_counts(dice, tasks, window):
+    """Counts below the window for the most part, and at it now and then; and now and then one of an absent task."""
+    counts = strewn_counts(dice, tasks, window if dice.one_in(8) else dice.pick([window - 1, dice.below(window)]))
+    if tasks < 8 and dice.one_in(8):
+        counts[dice.between(tasks, 7)] = dice.pick([1, 255])
+    return counts
+
+
+def with_settings(dice, case):
+    """The case with settings in its bids: of one choice, or of three that change from bid to bid, and now and then refused ones. Rounds keep theirs. Where there are none,
+    and the set is accepted, some records get counts too."""
+    s = brute.read_set(case.words, former=True)
+    rounds = any(call[0] == ROUNDS for call in case.calls)
+    choice = [any_settings(dice) for _ in range(1 if rounds else dice.pick([1, 1, 1, 3]))]
+    calls = []
+    for kind, a, b, c in case.calls:
+        if kind in (BID, BID_IN_PLACE):
+            calls.append((kind, a) + (refused_settings(dice) if dice.one_in(24) else dice.pick(choice)))
+        elif kind == ROUNDS:
+            calls.append((kind, a, b, c | choice[0].share << 8 | choice[0].window << 16))
+        else:
+            calls.append((kind, a, b, c))
+        if kind == RECORD and not rounds and isinstance(s, Set) and dice.one_in(3):
+            calls.append(counts_call(some_counts(dice, len(s.tasks), dice.pick(choice).window)))
+    return Case(case.words, case.map_length, case.plan_length, calls, case.finishes)
+
+
+def shared_set(dice, limit):
+    """A clean random set with an open state in which two tasks or more would be granted."""
+    while True:
+        s = brute.cleaned(dice.pick([deep_set, wide_set, loose_set])(dice, limit))
+        if forks_of(s):
+            return s
+
+
+def forks_of(s):
+    """The open states in which two tasks or more would be granted, each with these tasks."""
+    bytes_ = brute.map_of(s)
+    going = [(state, brute.onto_open(s, bytes_, state)) for state, byte in zip(brute.states_of(s), bytes_) if byte == brute.OPEN]
+    return [(state, tasks) for state, tasks in going if len(tasks) > 1]
+
+
+def at_record(dice, state, counts):
+    """Calls that make a record of this state and these counts."""
+    return [record_call(list(state) + [0] * (8 - len(state)), dice.bits()), counts_call(counts)]
+
+
+def bid_call(dice, task, settings):
+    return (dice.pick([BID, BID_IN_PLACE]), task) + settings
+
+
+def eager_task(dice, count):
+    """One task over and over in a round of so many."""
+    return [dice.below(count)] * (8 - count)
+
+
+def kept_round_calls(dice, s):
+    """Rounds that finish the set, and an again, under one pair of settings after the other; in most of the rounds one task bids far more often than the others."""
+    calls = []
+    pairs = [(share, window) for share in range(1, 5) for window in range(1, 5)] + [(255, 255), (1, 255), (254, 255), (255, 1), (2, 7), (9, 10)]
+    for share, window in dice.mixed(pairs)[:8]:
+        rounds = round_calls(dice, s, sum(lengths_of(s)), dice.pick([one_more, eager_task, eager_task]))
+        calls += [(kind, times, tasks, count | share << 8 | window << 16) for kind, times, tasks, count in rounds] + [(AGAIN,)]
+    return calls
+
+
+def long_calls(dice, s):
+    """A list across many windows: bids of unfinished tasks, and an again whenever there is none. The settings are kept, or change between two."""
+    choice = [small_settings(dice) for _ in range(dice.pick([1, 1, 2]))]
+    bytes_, record, calls = brute.map_of(s), FRESH, []
+    for _ in range(60):
+        left = [task for task, length in enumerate(lengths_of(s)) if record.positions[task] < length]
+        if left:
+            task, settings = dice.pick(left), dice.pick(choice)
+            calls.append(bid_call(dice, task, settings))
+            _, record = brute.bid_on(s, bytes_, record, task, settings)
+        else:
+            calls.append((AGAIN,))
+            _, record = brute.again(words_of(*s), record)
+    return calls
+
+
+def edge_count_calls(dice, s):
+    """Where several tasks would be granted: a bid of one that has had its share, one grant less or more, with another's count at the share or below it, and all counts
+    together at the window, one below it or more."""
+    calls = []
+    for _ in range(6):
+        state, going = dice.pick(forks_of(s))
+        task, other, *_ = dice.mixed(going)
+        share = dice.pick([1, 1, 2, 2, 3, 5, 127, 128])
+        counts = strewn_counts(dice, len(s.tasks), dice.pick([0, 0, 1, 2]))
+        counts[task], counts[other] = share + dice.pick([-1, 0, 0, 0, 1]), dice.pick([0, share - 1, share])
+        window = min(255, sum(counts) + dice.pick([0, 1, 1, 1, 2, 2, 20]))
+        calls += at_record(dice, state, counts) + [bid_call(dice, task, Settings(share, max(1, window)))]
+    return calls
+
+
+def settings_calls(dice, s):
+    """Every pair of these settings, at the start; half of them with the first task's share spent or its counts near the largest window."""
+    numbers = (0, 1, 2, 254, 255, 256, 257, 0x10000, 0x10001, 0x1000001, 0x80000000, 0xFFFFFFFF)
+    calls = []
+    for settings in itertools.product(numbers, numbers):
+        counts = dice.pick([[0] * 8, [1] + [0] * 7, [254] + [0] * 7, [253, 1] + [0] * 6])
+        calls += at_record(dice, [0] * len(s.tasks), counts) + [bid_call(dice, 0, settings)]
+    return calls
+
+
+def sum_calls(dice, s):
+    """Counts that add up to more than 255 and are small in eight bits: 16 in a bid, and nothing to an again or a route."""
+    tasks = len(s.tasks)
+    calls = []
+    for total in (254, 255, 256, 257, 511, 512, 2040):
+        each = [total // tasks + (task < total % tasks) for task in range(tasks)]
+        counts = [min(255, count) for count in dice.mixed(each)] + [0] * (8 - tasks)
+        calls += at_record(dice, [0] * tasks, counts) + [bid_call(dice, dice.below(tasks), Settings(dice.pick([1, 255]), 255)), (AGAIN,), (ROUTE, dice.below(4))]
+    return calls
+
+
+def faulty_record_calls(dice, s, window):
+    """A record that a bid with this window refuses: for a position, a state that isn't open, a count of an absent task, or the sum of the counts."""
+    tasks = len(s.tasks)
+    shut = [state for state, byte in zip(brute.states_of(s), brute.map_of(s)) if byte != brute.OPEN]
+    kind = dice.below(4)
+    if kind == 0:
+        return at_record(dice, spoilt_positions(dice, s), [0] * 8)
+    if kind == 1 and shut:
+        return at_record(dice, dice.pick(shut), [0] * 8)
+    if kind == 2 and tasks < 8:
+        return at_record(dice, [0] * tasks, [0] * tasks + dice.mixed([1] + [0] * (7 - tasks)))
+    return at_record(dice, [0] * tasks, strewn_counts(dice, tasks, window))
+
+
+def order_calls(dice, s):
+    """Every choice of faults in one bid: a map that is too short, settings that are refused, a record that is, a task that is none's."""
+    calls = []
+    for short, setting, record, task in itertools.product((False, True), repeat=4):
+        good = small_settings(dice)
+        calls.append((LEND, grid_of(s) - short))
+        calls += faulty_record_calls(dice, s, good.window) if record else at_record(dice, [0] * len(s.tasks), [0] * 8)
+        calls.append(bid_call(dice, dice.pick([len(s.tasks), 8, 9]) if task else dice.below(len(s.tasks)), refused_settings(dice) if setting else good))
+    return calls
+
+
+def again_and_route_calls(dice, s):
+    """Agains and routes with counts of the set's tasks, which they don't look at, and with one of an absent task, at every kind of state and on a map that is too short."""
+    bytes_ = dict(zip(brute.states_of(s), brute.map_of(s)))
+    tasks, room = len(s.tasks), min(MAX_ROUTE, sum(lengths_of(s)))
+    states = [lengths_of(s), (0,) * tasks] + [dice.pick(some) for some in ([state for state in bytes_ if bytes_[state] == byte] for byte in range(4)) if some]
+    calls = []
+    for length in (grid_of(s), grid_of(s) - 1):
+        calls.append((LEND, length))
+        for state in states:
+            counts = [dice.pick([0, 1, 255]) for _ in range(tasks)] + [0] * (8 - tasks)
+            calls += at_record(dice, state, counts) + [(ROUTE, room), (AGAIN,)]
+            if tasks < 8:
+                counts[dice.between(tasks, 7)] = dice.pick([1, 255])
+                calls += at_record(dice, state, counts) + [(ROUTE, room), (AGAIN,)]
+    return calls
+
+
+def other_byte_calls(dice, s):
+    """Bids of a task that has had its share, where another's next state has any byte; and of that other one."""
+    calls = []
+    for _ in range(5):
+        state, going = dice.pick(forks_of(s))
+        task, other, *_ = dice.mixed(going)
+        settings = Settings(dice.pick([1, 2]), 9)
+        counts = [0] * 8
+        counts[task] = settings.share
+        rank = brute.rank_of(s, brute.next_state(state, other))
+        calls.append((POKE, rank, dice.pick([1, 2, 3, 4, 5, 128, 255])))
+        for bidder in (task, other):
+            calls += at_record(dice, state, counts) + [bid_call(dice, bidder, settings)]
+        calls.append((POKE, rank, brute.OPEN))
+    return calls
+
+
+def share_cases(dice):
+    """Fair shares: each kind of the calls above on known sets and on random ones."""
+    known = [crossing(2), crossing(3), ring(3), users(1, 3, 2), users(2, 3, 1), users(8, 4, 1), users(8, 8, 1), apart([4, 4, 4])]
+    kinds = [(kept_round_calls, 30), (long_calls, 25), (edge_count_calls, 40), (other_byte_calls, 25)]
+    kinds += [(settings_calls, 2), (sum_calls, 8), (order_calls, 12), (again_and_route_calls, 12)]
+    cases = []
+    for make, count in kinds:
+        for number in range(count):
+            s = known[number] if number < len(known) else shared_set(dice, dice.pick([30, 60, 120, 200]))
+            cases.append(Case(words_of(*s), grid_of(s), plan_length(s), make(dice, s)))
+    return cases
+
+
 def all_cases():
-    dice = Dice(SEED)
+    dice, shares = Dice(SEED), Dice(SHARE_SEED)
     cases = named_cases(dice) + dead_cases(dice) + small_cases(dice) + faulty_cases(dice) + large_cases(dice) + stored_cases(dice)
-    return [with_cleaning(case) for case in cases] + cleaning_cases(dice) + [with_cleaning(case) for case in counted_cases(dice)]
+    cases = [with_cleaning(case) for case in cases] + cleaning_cases(dice) + [with_cleaning(case) for case in counted_cases(dice)]
+    return [with_settings(shares, case) for case in cases] + share_cases(shares)
 
 
 def swept_states(tasks, low, high):
     """How many states a sweep has; no position is given past the tasks."""
-    last = positions_in(low, high)
+    last = eight_in(low, high)
     assert 1 <= tasks <= 8 and not any(last[tasks:])
     return math.prod(position + 1 for position in last)
 

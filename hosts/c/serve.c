@@ -1,8 +1,9 @@
-/* serve SETFILE: reads a set (four bytes a word, lowest first), analyses it, serves rounds of bids until every task is finished, starts
- * anew and prints the route from the start. The same program in Rust is rust/examples/serve.rs, in Python python/serve.py; all print the same.
+/* serve SETFILE [SHARE WINDOW]: reads a set (four bytes a word, lowest first), analyses it, serves rounds of bids until every task is finished, starts
+ * anew and prints the route from the start. Each bid brings SHARE and WINDOW; without them both are 255, and no share is ever spent. The same program
+ * in Rust is rust/examples/serve.rs, in Python python/serve.py; all print the same.
  *
- * Exit status: 0; 1 if a call was refused, with the refusal as the last line; 2 if the library isn't of the header's version, the file can't be
- * read, standard output not written, or memory is out. */
+ * Exit status: 0; 1 if a call was refused, with the refusal as the last line; 2 if the arguments are wrong, the library isn't of the header's version,
+ * the file can't be read, standard output not written, or memory is out. */
 #include "arbiter.h"
 
 #include <stdbool.h>
@@ -30,6 +31,18 @@ static void refused(uint32_t refusal, uint64_t place) {
 static size_t value_of(arbiter_answer answer) {
     if (answer.kind == ARBITER_REFUSED) refused(answer.refusal, answer.value);
     return (size_t)answer.value;
+}
+
+/* The number in an argument of decimal digits, at most UINT32_MAX: what isn't 1 to 255 is for the library to refuse, and must not be cut to what is. */
+static uint32_t number_in(const char *argument, const char *complaint) {
+    uint32_t number = 0;
+    const char *at = argument;
+    for (; *at >= '0' && *at <= '9'; at++) {
+        uint32_t digit = (uint32_t)(*at - '0');
+        number = number > (UINT32_MAX - digit) / 10 ? UINT32_MAX : number * 10 + digit;
+    }
+    if (at == argument || *at != '\0') stop(complaint);
+    return number;
 }
 
 static void *room(size_t count, size_t size) {
@@ -75,9 +88,19 @@ static uint32_t *plan_of(const uint32_t *set, size_t set_len, uint8_t *map, size
     }
 }
 
+/* What every bid of the service is made with. */
+typedef struct {
+    arbiter_record record;
+    const uint32_t *set;
+    size_t set_len;
+    const uint8_t *map;
+    size_t map_len;
+    uint32_t share, window;
+} service;
+
 /* One bid, printed; whether the task was finished already. */
-static bool finished(arbiter_record *record, const uint32_t *set, size_t set_len, const uint8_t *map, size_t map_len, size_t round, size_t task) {
-    arbiter_answer answer = arbiter_bid(record, set, set_len, map, map_len, task);
+static bool finished(service *it, size_t round, size_t task) {
+    arbiter_answer answer = arbiter_bid(&it->record, it->set, it->set_len, it->map, it->map_len, task, it->share, it->window);
     size_t value = value_of(answer);
     printf("round %zu, task %zu: ", round, task);
     switch (answer.kind) {
@@ -85,13 +108,37 @@ static bool finished(arbiter_record *record, const uint32_t *set, size_t set_len
     case ARBITER_FINISHED: printf("finished\n"); break;
     case ARBITER_BUSY: printf("waits for device %zu\n", value); break;
     case ARBITER_HELD: printf("held back from unsafe state %zu\n", value); break;
+    case ARBITER_SHARE_SPENT: printf("waits, since its share is spent\n"); break;
     default: stop("a bid has no such answer: another libarbiter.a was linked");
     }
     return answer.kind == ARBITER_FINISHED;
 }
 
+/* Rounds of bids until every task is finished. */
+static void serve_rounds(service *it, size_t tasks) {
+    size_t done = 0;
+    for (size_t round = 1; done < tasks; round++) {
+        done = 0;
+        for (size_t task = 0; task < tasks; task++) {
+            if (finished(it, round, task)) done++;
+        }
+    }
+}
+
+/* The route from the record's state to the end. */
+static void print_route(const service *it) {
+    uint8_t *route = room(it->set_len, 1);
+    size_t steps = value_of(arbiter_route(it->record, it->set, it->set_len, it->map, it->map_len, route, it->set_len));
+    printf("route:");
+    for (size_t i = 0; i < steps; i++) printf(" %u", (unsigned)route[i]);
+    printf("\n");
+    free(route);
+}
+
 int main(int arguments, char **argument) {
-    if (arguments != 2) stop("usage: serve SETFILE");
+    if (arguments != 2 && arguments != 4) stop("usage: serve SETFILE [SHARE WINDOW]");
+    uint32_t share = arguments == 4 ? number_in(argument[2], "SHARE isn't a number: 1 to 255") : ARBITER_MAX_SETTING;
+    uint32_t window = arguments == 4 ? number_in(argument[3], "WINDOW isn't a number: 1 to 255") : ARBITER_MAX_SETTING;
     if (arbiter_version() != ARBITER_VERSION) stop("libarbiter.a isn't of the version of arbiter.h");
 
     static uint32_t set[ARBITER_MAX_WORDS];
@@ -109,26 +156,15 @@ int main(int arguments, char **argument) {
            arbiter_count(plan, plan_len, ARBITER_UNREACHED_STATE));
     printf("unsafe: %u of every 1000 permitted states, remainder %u\n", (unsigned)analysis.quotient, (unsigned)analysis.remainder);
 
-    arbiter_record record = arbiter_fresh();
-    size_t done = 0;
-    for (size_t round = 1; done < tasks; round++) {
-        done = 0;
-        for (size_t task = 0; task < tasks; task++) {
-            if (finished(&record, set, set_len, map, map_len, round, task)) done++;
-        }
-    }
-    printf("grants: %u\n", (unsigned)record.grants);
+    printf("share: %u, window: %u\n", (unsigned)share, (unsigned)window);
+    service it = {arbiter_fresh(), set, set_len, map, map_len, share, window};
+    serve_rounds(&it, tasks);
+    printf("grants: %u\n", (unsigned)it.record.grants);
 
-    value_of(arbiter_again(&record, set, set_len));
+    value_of(arbiter_again(&it.record, set, set_len));
     printf("again: every task is at its start\n");
+    print_route(&it);
 
-    uint8_t *route = room(set_len, 1);
-    size_t steps = value_of(arbiter_route(arbiter_fresh(), set, set_len, map, map_len, route, set_len));
-    printf("route:");
-    for (size_t i = 0; i < steps; i++) printf(" %u", (unsigned)route[i]);
-    printf("\n");
-
-    free(route);
     free(plan);
     free(map);
     end(0);

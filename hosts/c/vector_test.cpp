@@ -27,7 +27,7 @@ int main() {
     check(no_words.quotient == 0 && no_words.remainder == 0, "parts per thousand without a plan");
 
     arbiter_record record = arbiter_fresh();
-    arbiter_answer bid = arbiter_bid(&record, set.data(), set.size(), ARBITER_LEND(no_map_to_read.data()), 0, 0);
+    arbiter_answer bid = arbiter_bid(&record, set.data(), set.size(), ARBITER_LEND(no_map_to_read.data()), 0, 0, 1, 1);
     check(bid.refusal == ARBITER_MAP_TOO_SHORT, "bid without a map");
     check(arbiter_again(&record, ARBITER_LEND(no_set.data()), 0).refusal == ARBITER_NO_WORDS, "again without words");
     arbiter_answer route = arbiter_route(record, set.data(), set.size(), map.data(), map.size(), ARBITER_LEND(no_route.data()), 0);

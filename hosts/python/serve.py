@@ -1,6 +1,6 @@
 #!/usr/bin/env python3
-"""serve.py LIBRARY SETFILE: the example host in Python, through a shared library made from libarbiter.a and refusal_text.c (docs/HOSTS.md,
-"Other languages"). It prints what serve.c prints, which says what it does, and ends with the same status.
+"""serve.py LIBRARY SETFILE [SHARE WINDOW]: the example host in Python, through a shared library made from libarbiter.a and refusal_text.c
+(docs/HOSTS.md, "Other languages"). It prints what serve.c prints, which says what it does, and ends with the same status.
 """
 import ctypes
 import os
@@ -8,11 +8,12 @@ import sys
 from ctypes import POINTER, c_char_p, c_size_t, c_uint8, c_uint32, c_uint64
 
 # The numbers of include/arbiter.h that are used here.
-VERSION = 40000
+VERSION = 50000
 MAX_WORDS = 4096
+MAX_SETTING = 255
 NOT_ANALYSED = 0xFF
 DEVICE, TASK, FORBIDDEN_BOX, UNSAFE_BOX, DEAD_STATE, UNREACHED_STATE = 1, 2, 6, 7, 9, 10
-REFUSED, GRANTED, FINISHED, BUSY, HELD = 0, 4, 5, 6, 7
+REFUSED, GRANTED, FINISHED, BUSY, HELD, SHARE_SPENT = 0, 4, 5, 6, 7, 13
 TOO_MANY_WORDS, PLAN_TOO_SHORT, BYTES_NOT_WORDS = 2, 14, 15
 
 
@@ -25,7 +26,7 @@ class Analysis(ctypes.Structure):
 
 
 class Record(ctypes.Structure):
-    _fields_ = [("positions", c_uint8 * 8), ("grants", c_uint32)]
+    _fields_ = [("positions", c_uint8 * 8), ("grants", c_uint32), ("counts", c_uint8 * 8)]
 
 
 class State(ctypes.Structure):
@@ -38,7 +39,7 @@ CALLS = {
     "arbiter_read": (WORDS, Answer),
     "arbiter_analyse": (WORDS + BYTES + WORDS, Analysis),
     "arbiter_fresh": ([], Record),
-    "arbiter_bid": ([POINTER(Record)] + WORDS + BYTES + [c_size_t], Answer),
+    "arbiter_bid": ([POINTER(Record)] + WORDS + BYTES + [c_size_t, c_uint32, c_uint32], Answer),
     "arbiter_again": ([POINTER(Record)] + WORDS, Answer),
     "arbiter_route": ([Record] + WORDS + BYTES + BYTES, Answer),
     "arbiter_locate": ([State] + WORDS + [c_size_t], Answer),  # for hosts that keep plans, which this one doesn't
@@ -72,6 +73,14 @@ def value_of(library, answer):
     if answer.kind == REFUSED:
         refused(library, answer.refusal, answer.value)
     return answer.value
+
+
+def number_in(argument, name):
+    """The number in an argument of decimal digits, at most 32 bits: ctypes would cut a longer one to what the library might take."""
+    if not (argument.isascii() and argument.isdigit()):
+        stop(f"{name} isn't a number: 1 to 255")
+    digits = argument.lstrip("0")[:11] or "0"  # eleven of them are more than 32 bits already
+    return min(int(digits), 0xFFFFFFFF)
 
 
 def words_in(library, path):
@@ -115,10 +124,10 @@ def said(answer):
         return f"waits for device {answer.value}"
     if answer.kind == HELD:
         return f"held back from unsafe state {answer.value}"
-    return {GRANTED: "granted", FINISHED: "finished"}[answer.kind]
+    return {GRANTED: "granted", FINISHED: "finished", SHARE_SPENT: "waits, since its share is spent"}[answer.kind]
 
 
-def serve(library, path):
+def serve(library, path, share, window):
     words = words_in(library, path)
     set_words = lent(c_uint32, words)
     states = value_of(library, library.arbiter_read(set_words, len(words)))
@@ -130,12 +139,13 @@ def serve(library, path):
     print(f"forbidden boxes: {count(plan, FORBIDDEN_BOX)}, unsafe boxes: {count(plan, UNSAFE_BOX)}, dead states: {dead}")
     print(f"unsafe: {analysis.quotient} of every 1000 permitted states, remainder {analysis.remainder}")
 
+    print(f"share: {share}, window: {window}")
     record = library.arbiter_fresh()
     number, done = 0, 0
     while done < tasks:
         number, done = number + 1, 0
         for task in range(tasks):
-            answer = library.arbiter_bid(record, set_words, len(words), state_bytes, states, task)
+            answer = library.arbiter_bid(record, set_words, len(words), state_bytes, states, task, share, window)
             value_of(library, answer)
             print(f"round {number}, task {task}: {said(answer)}")
             done += answer.kind == FINISHED
@@ -150,11 +160,12 @@ def serve(library, path):
 
 
 def main():
-    if len(sys.argv) != 3:
-        stop("usage: serve.py LIBRARY SETFILE")
+    if len(sys.argv) not in (3, 5):
+        stop("usage: serve.py LIBRARY SETFILE [SHARE WINDOW]")
+    settings = (number_in(sys.argv[3], "SHARE"), number_in(sys.argv[4], "WINDOW")) if len(sys.argv) == 5 else (MAX_SETTING, MAX_SETTING)
     try:
         try:
-            serve(loaded(sys.argv[1]), sys.argv[2])
+            serve(loaded(sys.argv[1]), sys.argv[2], *settings)
         finally:
             sys.stdout.flush()
     except (OSError, AttributeError) as problem:  # no such library or output, or a library without these calls

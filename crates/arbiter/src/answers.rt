@@ -49,6 +49,8 @@ pub const IN_NO_BOX: u32 = 11;
 
 pub const CLEANED: u32 = 12;
 
+pub const SHARE_SPENT: u32 = 13;
+
 // Sixteen bytes without a gap: the kind; the refusal's number, 0 without one; the value, 0 without one.
 #[repr(C)]
 pub struct Answer {
@@ -149,6 +151,7 @@ pub(crate) fn of_bid(answer: BidAnswer) -> Answer
     match answer {
         BidAnswer::Granted => plain(GRANTED),
         BidAnswer::Finished => plain(FINISHED),
+        BidAnswer::ShareSpent => plain(SHARE_SPENT),
         BidAnswer::Busy { device } => valued(BUSY, device as usize),
         BidAnswer::Held { rank } => valued(HELD, rank),
         BidAnswer::Refused { number, place } => refuse(number, place),

@@ -15,6 +15,7 @@ ghost use Rattle.records.specs.Says.{recordOf};
 ghost use Rattle.arbiter.specs.Told.{structOf, ToldAnalysis, ToldServed, ToldRoute, ToldCleaned};
 use answers::Analysis;
 use answers::Answer;
+use broker::Settings;
 use records::Record;
 
 // The state that a plan is asked about: eight positions, those past the task count unread.
@@ -55,12 +56,24 @@ pub extern "C" fn arbiter_fresh() -> Record
     Record::fresh()
 }
 
-// A bid of a task on the host's record.
+// A bid of a task on the host's record, with the settings share and window.
 #[no_mangle]
-pub extern "C" fn arbiter_bid(rec: &mut Record, set: &[u32], map: &[u8], task: usize) -> Answer
-    ensures { λ r. ⌜ ToldServed tellBid r (recordOf (now (rec .exit))) (bid (now (set .entry)) (now (map .entry)) (recordOf (now (rec .entry))) task) ⌝ }
+pub extern "C" fn arbiter_bid(
+    rec: &mut Record,
+    set: &[u32],
+    map: &[u8],
+    task: usize,
+    share: u32,
+    window: u32,
+) -> Answer
+    ensures { λ r. ⌜ ToldServed tellBid r (recordOf (now (rec .exit)))
+        (bid (now (set .entry)) (now (map .entry)) (record { share = share; window = window }) (recordOf (now (rec .entry))) task) ⌝ }
 {
-    answers::of_bid(broker::bid_in_place(rec, set, map, task))
+    let settings = Settings {
+        share: share,
+        window: window,
+    };
+    answers::of_bid(broker::bid_in_place(rec, set, map, task, settings))
 }
 
 // Again on the host's record.

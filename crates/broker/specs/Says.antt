@@ -1,7 +1,9 @@
--- What the code's answers say in the terms of SCOPE.md, "Broker".
+-- What the code's settings and answers say in the terms of SCOPE.md, "Broker" and "Fair shares".
 use Rattle.model.specs.Answer.{Answer, given, refused}
-use Rattle.model.specs.Broker.{Bid, granted, finished, busy, held, Again, restarted, Served}
+use Rattle.model.specs.Broker as model
+use Rattle.model.specs.Broker.{Bid, granted, finished, share-spent, busy, held, Again, restarted, Served}
 use Rattle.records.specs.Says.{recordOf}
+use Rattle.broker.specs.declared.Settings.{Settings}
 use Rattle.broker.specs.declared.BidAnswer.{BidAnswer}
 use Rattle.broker.specs.declared.BidAnswer.the-variants as bid
 use Rattle.broker.specs.declared.AgainAnswer.{AgainAnswer}
@@ -9,10 +11,15 @@ use Rattle.broker.specs.declared.AgainAnswer.the-variants as again
 use Rattle.broker.specs.declared.ServedBid.{ServedBid}
 use Rattle.broker.specs.declared.ServedAgain.{ServedAgain}
 
+-- share and window
+abbrev pub settingsOf : Settings → model.Settings
+settingsOf c = record { share = c .share; window = c .window }
+
 -- a bid's answer, with Busy's device, Held's rank, and a refusal's number and place
 unfoldable pub bidOf : BidAnswer → Answer Bid
 bidOf bid.Granted = given granted
 bidOf bid.Finished = given finished
+bidOf bid.ShareSpent = given share-spent
 bidOf (bid.Busy device) = given (busy device)
 bidOf (bid.Held rank) = given (held rank)
 bidOf (bid.Refused number place) = refused number place

@@ -28,7 +28,7 @@ fn answer_on(shape: Shape, rec: Record) -> AgainAnswer
     requires { ⌜ ((words : List ℕ) × (s : Set) × Declares words shape s) ⌝ }
     ensures { λ r. ⌜ ((words : List ℕ) (s : Set) → Declares words shape s → againOf r ≡ againAnswer s (recordOf rec)) ⌝ }
 {
-    if records::misplaced(rec, shape) {
+    if records::unfit(rec, shape) {
         return refuse(model::BAD_RECORD, 0);
     }
     if records::at_end(rec, shape) {

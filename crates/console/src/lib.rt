@@ -53,6 +53,7 @@ pub fn bid(said: BidAnswer) {
     match said {
         BidAnswer::Granted => text(b"granted"),
         BidAnswer::Finished => text(b"finished"),
+        BidAnswer::ShareSpent => text(b"share spent"),
         BidAnswer::Busy { device } => named(b"busy ", device as usize),
         BidAnswer::Held { rank } => named(b"held ", rank),
         BidAnswer::Refused { number, place } => refusal(number, place),

@@ -4,10 +4,12 @@ ghost use lib.ListN.{length};
 use crate::input::CALL_WORDS;
 use crate::lent;
 use crate::questions;
+use crate::rounds::Bids;
 use crate::rounds::show_rounds;
 use crate::sets;
 use crate::text;
 use broker::ServedBid;
+use broker::Settings;
 use listing::least;
 use records::Record;
 use route::RouteAnswer;
@@ -38,6 +40,8 @@ const SWEEP: u32 = 11;
 const CLEAN: u32 = 12;
 
 const ANALYSE: u32 = 13;
+
+const COUNTS: u32 = 14;
 
 // The longest route slice: one that a line shows whole.
 const MAX_ROUTE: usize = text::ROW;
@@ -129,7 +133,7 @@ fn store(plan: &mut [u32], index: usize, word: u32) {
 // A question to the stored plan, at one state or at every state of a grid.
 fn ask(plan: &[u32], kept: usize, call: Call) {
     let n = least(kept, plan.len());
-    let positions = positions_of(call.b, call.c);
+    let positions = eight_of(call.b, call.c);
     if call.kind == SWEEP {
         questions::sweep(&plan[..n], call.a as usize, positions);
         return;
@@ -145,6 +149,7 @@ fn answer_call(set: &[u32], map: &[u8], play: Play, call: Call) -> Play {
     let mut next = play;
     match kind {
         RECORD => next.rec = record_of(call.a, call.b, call.c),
+        COUNTS => next.rec = counted(own, call.a, call.b),
         LEND => next.lent = call.a as usize,
         KEEP => next.kept = call.a as usize,
         ROUTE => show_route(&set[..n], &map[..lent], own, call.a as usize),
@@ -153,8 +158,8 @@ fn answer_call(set: &[u32], map: &[u8], play: Play, call: Call) -> Play {
     next
 }
 
-// The positions of two words, a byte each.
-fn positions_of(low: u32, high: u32) -> [u8; model::MAX_TASKS] {
+// Eight numbers of two words, a byte each.
+fn eight_of(low: u32, high: u32) -> [u8; model::MAX_TASKS] {
     let first = listing::word_bytes(low);
     let last = listing::word_bytes(high);
     [
@@ -169,12 +174,34 @@ fn positions_of(low: u32, high: u32) -> [u8; model::MAX_TASKS] {
     ]
 }
 
-// The record of two words of positions and a grant number.
+// The record of two words of positions and a grant number, with no counts.
 fn record_of(low: u32, high: u32, grants: u32) -> Record {
-    let positions = positions_of(low, high);
+    let positions = eight_of(low, high);
     Record {
         positions: positions,
         grants: grants,
+        counts: [0; model::MAX_TASKS],
+    }
+}
+
+// The record with the counts of two words.
+fn counted(rec: Record, low: u32, high: u32) -> Record {
+    let counts = eight_of(low, high);
+    let mut next = rec;
+    next.counts = counts;
+    next
+}
+
+// The bids of a round: the tasks are a word's digits, and how many there are, share and window are the bytes of another.
+fn bids_of(tasks: u32, word: u32) -> Bids {
+    let bytes = listing::word_bytes(word);
+    Bids {
+        tasks: tasks,
+        count: bytes[0],
+        settings: Settings {
+            share: bytes[1] as u32,
+            window: bytes[2] as u32,
+        },
     }
 }
 
@@ -194,11 +221,16 @@ fn show_steps(words: &[u32], map: &[u8], rec: Record, steps: &mut [u8]) {
 
 fn show_served(words: &[u32], map: &[u8], rec: Record, call: Call) -> Record {
     let kind = call.kind;
+    let task = call.a as usize;
+    let settings = Settings {
+        share: call.b,
+        window: call.c,
+    };
     match kind {
-        ROUNDS => show_rounds(words, map, rec, call.a, call.b, call.c),
+        ROUNDS => show_rounds(words, map, rec, call.a, bids_of(call.b, call.c)),
         AGAIN => show_again(words, rec),
-        BID_IN_PLACE => show_bid(lent::bid(words, map, rec, call.a as usize)),
-        _ => show_bid(broker::bid(words, map, rec, call.a as usize)),
+        BID_IN_PLACE => show_bid(lent::bid(words, map, rec, task, settings)),
+        _ => show_bid(broker::bid(words, map, rec, task, settings)),
     }
 }
 

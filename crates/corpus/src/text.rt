@@ -23,22 +23,31 @@ pub fn case(k: u32) {
     console::text(b": ");
 }
 
-// The end of a line: the eight positions and the grant number.
+// The end of a line: the eight positions, the grant number, and the eight counts unless all are 0.
 pub fn record(rec: Record) {
     let positions = rec.positions;
-    console::named(b" [", positions[0] as usize);
-    position(positions[1]);
-    position(positions[2]);
-    position(positions[3]);
-    position(positions[4]);
-    position(positions[5]);
-    position(positions[6]);
-    position(positions[7]);
-    console::named(b"] ", rec.grants as usize);
+    let counts = rec.counts;
+    eight(positions);
+    console::named(b" ", rec.grants as usize);
+    if 0 < rec.used() {
+        eight(counts);
+    }
     console::text(b"\n");
 }
 
-fn position(b: u8) {
+fn eight(numbers: [u8; model::MAX_TASKS]) {
+    console::named(b" [", numbers[0] as usize);
+    one_more(numbers[1]);
+    one_more(numbers[2]);
+    one_more(numbers[3]);
+    one_more(numbers[4]);
+    one_more(numbers[5]);
+    one_more(numbers[6]);
+    one_more(numbers[7]);
+    console::text(b"]");
+}
+
+fn one_more(b: u8) {
     console::named(b" ", b as usize);
 }
 

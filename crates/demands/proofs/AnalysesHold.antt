@@ -15,6 +15,7 @@ use Rattle.model.specs.Slice.{over}
 use Rattle.model.specs.Analysis.{Analysed, planFits, analyse}
 use Rattle.model.proofs.Bools.{by-bool}
 use Rattle.model.proofs.DeadRanks.{map-length}
+use Rattle.model.proofs.Records.{Carries, over-carries}
 use Rattle.model.proofs.PlanCount.{plan-count}
 use Rattle.model.proofs.PlanFitting.{plan-fits}
 use Rattle.model.proofs.ReadExact.{read-sound}
@@ -35,12 +36,15 @@ module _ (words : List ℕ) (s : Set) (is-read : read words ≡ given s) where
   }
 
 -- an analysis with room for the map leaves it at the slice's front, whether the plan fits or not
-pub map-left : (words map plan : List ℕ) (s : Set) → read words ≡ given s → size (lengthsOf s) ≤ length map → analyse words map plan .map ≡ over (mapOf s) map
+map-left : (words map plan : List ℕ) (s : Set) → read words ≡ given s → size (lengthsOf s) ≤ length map → analyse words map plan .map ≡ over (mapOf s) map
 map-left words map plan s e h =
     let of = of-analysis words s e in
     by-bool (ltb (length plan) (planLength s))
     (λ k. ap (λ (a : Analysed). a .map) (of .plan-short map plan h (ltb-true (length plan) (planLength s) k)) ∙ rw (map-length s))
     (λ k. ap (λ (a : Analysed). a .map) (of .made map plan h (ltb-false (length plan) (planLength s) k)) ∙ rw (map-length s))
+
+pub map-carries : (words map plan : List ℕ) (s : Set) → read words ≡ given s → size (lengthsOf s) ≤ length map → Carries s (analyse words map plan .map)
+map-carries words map plan s e h = rw (map-left words map plan s e h) (over-carries s map)
 
 pub analyses-hold : Analyses
 analyses-hold = record { plan-words = plan-words; analyses = of-analysis }

@@ -19,6 +19,7 @@ use Rattle.demands.specs.Demand3.{stateAfter, OfMap, OfPlan, Demand3}
 use Rattle.demands.proofs.StatesHold.{of-states}
 use Rattle.demands.proofs.MapDemandHolds.{can-end, open-both, bytes-right}
 use Rattle.demands.proofs.AnalysesHold.{of-analysis}
+use Rattle.demands.proofs.AllowedSettings.{allowed}
 use Rattle.demands.proofs.Demand2Holds.{plan-left}
 
 -- what is left of an analysis that made the map
@@ -40,10 +41,10 @@ module _ (words map made : List ℕ) (mapped : Mapped (read words) map made) whe
         let g = serves cs .good in
         (g .grid, open-both (setIn words) (stateAfter words made cs) (g .grid) .0 (g .is-open));
     counted = grant-number words made;
-    finished = λ rs named enough.
-        of-states (lengthsOf (setIn words)) .end (stateAfter words made (roundCalls rs))
-        (serves (roundCalls rs) .good .grid) .0
-        (rounds-finish words made (setIn words) well-formed (mapped .is-read) lent rs named enough);
+    finished = λ c a rs named enough.
+        of-states (lengthsOf (setIn words)) .end (stateAfter words made (roundCalls c rs))
+        (serves (roundCalls c rs) .good .grid) .0
+        (rounds-finish words made (setIn words) well-formed (mapped .is-read) lent c (allowed c a) rs named enough);
   }
 
   -- of the plan of the set

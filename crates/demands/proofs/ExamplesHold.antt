@@ -14,15 +14,15 @@ use Rattle.model.specs.Layout.{actionWord, taskWords, body, withEnd}
 use Rattle.model.specs.Clean.{keptFrom, renamed, cleanFits}
 use Rattle.model.specs.Plan.{ranksFrom, keep, sideWords, forbiddenWords, unsafeWords, planWords}
 use Rattle.model.specs.Answer.{_then_, ifGiven}
-use Rattle.model.specs.Record.{misplaced, mapFits, placed}
+use Rattle.model.specs.Record.{misplaced, miscounted, mapFits, placed}
 use Rattle.model.specs.PerThousand.{permittedStates, unsafeStates}
 use Rattle.model.specs.Analysis.{planFits}
-use Rattle.model.specs.Broker.{bidByte, bidAnswer, isGranted, afterCall, afterList}
+use Rattle.model.specs.Broker.{bidByte, mapAnswer, isGranted, settled, otherGoes, sharedAnswer, bidAnswer, inWindow, afterCall, afterList}
 use Rattle.model.specs.Route.{stepFrom, walk, walked, routeFrom, routeSteps, routeFits}
 use Rattle.demands.specs.Examples.{answers, Examples}
 
 pub examples-hold : Examples
-unfolding any tabulate maximum deviceOf size lastTask addAction heldAfter note outOfOrder fieldAllowed tooMany fault readFrom readWords close readBy setOf claims claimed lowest isEnd sum weight rank stateAt heldTo holdsFrom holding unitsHeld permitted inside covered firstBox choose prefixed sidesOf boxesOf boxesOfAll deviceBoxes forbiddenFrom forbidden stepsOnto byte lastBytes bytes steppedOnto mark firstMarks getsBox blockerLow unsafeBox lastUnsafe unsafeBoxes withEnd ranksFrom keep permittedStates unsafeStates sideWords forbiddenWords unsafeWords planWords _then_ ifGiven mapFits planFits misplaced placed bidByte bidAnswer isGranted afterCall afterList stepFrom walk walked routeFrom routeSteps routeFits cleanFits keptFrom howMany renamed taskWords body actionWord answers
+unfolding any tabulate maximum deviceOf size lastTask addAction heldAfter note outOfOrder fieldAllowed tooMany fault readFrom readWords close readBy setOf claims claimed lowest isEnd sum weight rank stateAt heldTo holdsFrom holding unitsHeld permitted inside covered firstBox choose prefixed sidesOf boxesOf boxesOfAll deviceBoxes forbiddenFrom forbidden stepsOnto byte lastBytes bytes steppedOnto mark firstMarks getsBox blockerLow unsafeBox lastUnsafe unsafeBoxes withEnd ranksFrom keep permittedStates unsafeStates sideWords forbiddenWords unsafeWords planWords _then_ ifGiven mapFits planFits misplaced miscounted placed bidByte mapAnswer isGranted settled otherGoes sharedAnswer bidAnswer inWindow afterCall afterList stepFrom walk walked routeFrom routeSteps routeFits cleanFits keptFrom howMany renamed taskWords body actionWord answers
 examples-hold = record {
   a-states = (refl, refl);
   a-answer = refl;
@@ -57,4 +57,9 @@ examples-hold = record {
   r-plan = refl;
   r-states = (refl, refl);
   r-answer = refl;
+  t-answers = refl;
+  t-closed = refl;
+  t-record = refl;
+  t-longer = refl;
+  t-together = refl;
 }

@@ -2,7 +2,7 @@
 use Prim.Native.Nat.{ℕ}
 use mathlib.Core.Path.{_≡_, refl, sym, ap, _∙_}
 use Rattle.model.specs.Answer.{Answer, given, refused, ifGiven}
-use Rattle.model.specs.Broker.{Bid, granted, finished, busy, held, Again, restarted}
+use Rattle.model.specs.Broker.{Bid, granted, finished, share-spent, busy, held, Again, restarted}
 use Rattle.model.specs.Analysis.{Planned}
 use Rattle.model.specs.StoredPlan.{Location, in-forbidden, in-unsafe, in-neither}
 use Rattle.model.specs.Told.{
@@ -45,6 +45,7 @@ hears-bid : (a : Answer Bid) → hearBid (tellBid a) ≡ a
 unfolding tell hear bidNumbers bidHeard
 hears-bid (given granted) = refl
 hears-bid (given finished) = refl
+hears-bid (given share-spent) = refl
 hears-bid (given (busy d)) = refl
 hears-bid (given (held r)) = refl
 hears-bid (refused n p) = refl
@@ -79,6 +80,7 @@ hosts-hold = record {
   of-forbidden = λ i. refl;
   of-unsafe = λ i. refl;
   of-neither = refl;
+  of-spent = refl;
   of-cleaned = λ n. refl;
   of-accepted = λ s. refl;
   of-faulty = λ n p. refl;

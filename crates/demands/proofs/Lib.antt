@@ -27,10 +27,14 @@ pub mod MapDemandHolds
 pub mod UnsafeRuleHolds
 pub mod AnalysesHold
 pub mod Placed
+pub mod AllowedSettings
+pub mod SharesTold
+pub mod BidsHold
 pub mod Demand2Holds
 pub mod Demand3Holds
 pub mod WalkSteps
 pub mod CallsHold
+pub mod BiddingHolds
 pub mod ServiceHolds
 pub mod RouteDemandHolds
 pub mod PrintedNumbers
@@ -44,6 +48,7 @@ pub mod AgreesHolds
 pub mod StoredPlansHold
 pub mod NumberedStates
 pub mod PerThousandHolds
+pub mod FairSharesHold
 pub mod RefusalsHold
 pub mod CleaningHolds
 pub mod HostsHold

@@ -23,7 +23,7 @@ use Rattle.model.proofs.Byte.{dead-unsafe}
 use Rattle.model.proofs.MapExact.{map-right}
 use Rattle.model.proofs.Records.{Carries}
 use Rattle.demands.specs.MapDemand.{Leads, ReachesEnd, IsReached, no-step-made, one-step-more, IsDead, IsOpen, IsUnsafe, Bytes, MapDemand}
-use Rattle.demands.proofs.StatesHold.{of-states}
+use Rattle.demands.proofs.StatesHold.{before-end, of-states}
 
 module _ (s : Set) where
   abbrev ls : List ℕ
@@ -59,7 +59,7 @@ module _ (s : Set) where
   is-dead : (x : State) → InGrid ls x → IsDead s x → Dead ls (permitted s) x
   is-dead x g d = record {
     is-permitted = d .is-permitted;
-    not-the-end = by-bool (isEnd ls x) (λ e. absurd (d .not-the-end (of-states ls .end x g .0 e))) (λ e. e);
+    not-the-end = before-end ls x g (d .not-the-end);
     no-step = λ t a.
         let q = and-true (unfinished ls x t) (permitted s (next x t)) a in
         true-not-false (permitted s (next x t)) (q .1) (d .no-step t (ltb-true (at x t) (at ls t) (q .0)));

@@ -3,7 +3,7 @@ use Prim.Native.Nat.{ℕ, _<_, _≤_}
 use native.Mathlib.Omega.{arith}
 use native.Mathlib.Nat.{eq-or-lt-of-le}
 use mathlib.Core.Path.{_≡_, refl, sym}
-use mathlib.Core.Bool.{Bool, true, false, not, cond, _||_}
+use mathlib.Core.Bool.{Bool, true, false, not, cond, _&&_, _||_}
 use mathlib.Core.List.{List, [], _∷_, _++_, List·Memᴰ, List·Memᴰ·head, List·Memᴰ·tail}
 use lib.ListN.{length}
 use lib.Dec.{eqb, ltb, leb}
@@ -15,9 +15,9 @@ use Rattle.model.specs.Layout.{encode, present, former}
 use Rattle.model.specs.Read.{readBy, read}
 use Rattle.model.specs.Clean.{cleaned, cleanFits, clean}
 use Rattle.model.specs.Plan.{planOf, planWords}
-use Rattle.model.specs.Record.{Record, misplaced, mapFits, placed}
+use Rattle.model.specs.Record.{Record, unfit, mapFits, placed}
 use Rattle.model.specs.Analysis.{planFits, withRoom, analyse}
-use Rattle.model.specs.Broker.{bidByte, bidAnswer, bid, againAnswer, again}
+use Rattle.model.specs.Broker.{Settings, bidByte, mapAnswer, wouldBeGranted, isSetting, settled, shareLeft, otherGoes, sharedAnswer, usedUp, bidAnswer, bid, againAnswer, again}
 use Rattle.model.specs.Route.{stepsFrom, walked, routeFrom, routeSteps, routeFits, route}
 use Rattle.model.specs.StoredPlan.{locate}
 use Rattle.model.proofs.Bools.{by-cases, true-not-false, or-true}
@@ -93,7 +93,7 @@ module _ (numbers : List ℕ) where
 
   placed-only : List·Memᴰ 16 numbers → (s : Set) (r : Record) → Only numbers (placed s r)
   unfolding placed Only
-  placed-only h s r = only-cond numbers (misplaced s r) _ _ h tt
+  placed-only h s r = only-cond numbers (unfit s r) _ _ h tt
 
 analysis-only : (words map plan : List ℕ) → Only ofAnalysis (analyse words map plan .answer)
 unfolding planFits Only
@@ -110,17 +110,30 @@ byte-only b r d =
     let by = only-cond ofBid in
     by (ltb 3 b) _ _ (listed 18 ofBid refl) (by (eqb b 1) _ _ tt (by (eqb b 2 || eqb b 3) _ _ tt tt))
 
-bid-only : (words map : List ℕ) (r : Record) (t : ℕ) → Only ofBid (bid words map r t .answer)
-unfolding bidAnswer Only
-bid-only words map r t =
+settled-only : (c : Settings) → Only ofBid (settled c)
+unfolding settled Only
+settled-only c = only-cond ofBid (isSetting (c .share) && isSetting (c .window)) _ _ tt (listed 26 ofBid refl)
+
+-- by set and map alone, and with a share that may be spent, which is no refusal
+map-only : (s : Set) (m : List ℕ) (x : State) (t : ℕ) → Only ofBid (mapAnswer s m x t)
+unfolding mapAnswer Only
+map-only s m x t =
+    let by = only-cond ofBid in
+    by (leb (length (s .tasks)) t) _ _ (listed 17 ofBid refl)
+    (by (not (unfinished (lengthsOf s) x t)) _ _ tt
+    (byte-only _ (rank (lengthsOf s) (next x t)) _))
+
+bid-only : (words map : List ℕ) (c : Settings) (r : Record) (t : ℕ) → Only ofBid (bid words map c r t .answer)
+unfolding bidAnswer sharedAnswer Only
+bid-only words map c r t =
     let by = only-cond ofBid in
     only-then ofBid (read words) _ (read-only _ words) λ s.
     only-then ofBid (mapFits s map) _ (fits-only ofBid (listed 13 ofBid refl) s map) λ grid.
+    only-then ofBid (settled c) _ (settled-only c) λ settings.
     only-then ofBid (placed s r) _ (placed-only ofBid (listed 16 ofBid refl) s r) λ x.
     by (not (eqb (at map (rank (lengthsOf s) x)) 0)) _ _ (listed 16 ofBid refl)
-    (by (leb (length (s .tasks)) t) _ _ (listed 17 ofBid refl)
-    (by (not (unfinished (lengthsOf s) x t)) _ _ tt
-    (byte-only _ (rank (lengthsOf s) (next x t)) _)))
+    (by (usedUp (c .window) (r .counts)) _ _ (listed 16 ofBid refl)
+    (by (wouldBeGranted s map x t && (not (shareLeft c r t) && otherGoes s map c r x t)) _ _ tt (map-only s map x t)))
 
 again-only : (words : List ℕ) (r : Record) → Only ofAgain (again words r .answer)
 unfolding againAnswer Only

@@ -18,12 +18,12 @@ use Rattle.model.proofs.Bools.{by-bool}
 use Rattle.model.proofs.States.{unfinished-task, next-grid}
 use Rattle.model.proofs.Sums.{sum-next}
 use Rattle.model.proofs.DeadRanks.{map-length}
-use Rattle.model.proofs.Records.{Carries, over-carries}
+use Rattle.model.proofs.Records.{Carries}
 use Rattle.demands.specs.MapDemand.{Leads, IsOpen, IsUnsafe, Bytes}
-use Rattle.demands.specs.Calls.{Misplaced, noRoute, byteOf, Walk, stops, goes, Walks, OfRoute}
+use Rattle.demands.specs.Calls.{Unfit, noRoute, byteOf, Walk, stops, goes, Walks, OfRoute}
 use Rattle.demands.specs.RouteDemand.{actionsLeft, Arrives, RouteRight, RouteDemand}
 use Rattle.demands.proofs.MapDemandHolds.{bytes-right, unsafe-byte, byte-unsafe}
-use Rattle.demands.proofs.AnalysesHold.{map-left}
+use Rattle.demands.proofs.AnalysesHold.{map-carries}
 use Rattle.demands.proofs.CallsHold.{grid, of-route}
 
 module _ (s : Set) (m : List ℕ) (lent : Carries s m) where
@@ -60,12 +60,12 @@ module _ (s : Set) (m : List ℕ) (lent : Carries s m) where
       }
 
 module _ (words m : List ℕ) (s : Set) (is-read : read words ≡ given s) (lent : Carries s m) (r : Record) (full : length (r .positions) ≡ 8)
-    (placed : Misplaced s r → ⊥) (slice : List ℕ) where
+    (fits : Unfit s r → ⊥) (slice : List ℕ) where
   abbrev x : State
   x = stateIn s r
 
   own-grid : InGrid (lengthsOf s) x
-  own-grid = grid words s is-read r full placed
+  own-grid = grid words s is-read r full fits
 
   room : size (lengthsOf s) ≤ length m
   room = omega (arith, lent .room, map-length s)
@@ -75,7 +75,7 @@ module _ (words m : List ℕ) (s : Set) (is-read : read words ≡ given s) (lent
 
   module _ (o : IsOpen s x) where
     walks : Walks words s r m slice
-    walks = of .from-open (room, placed, says s m lent .open-state x own-grid .1 o)
+    walks = of .from-open (room, fits, says s m lent .open-state x own-grid .1 o)
 
     ends : Ends s m lent x (walks .steps) (walks .last)
     ends = walk-ends s m lent (walks .walk) own-grid o
@@ -100,7 +100,7 @@ module _ (words m : List ℕ) (s : Set) (is-read : read words ≡ given s) (lent
   b = byteOf s m x
 
   unsafe-route : (b ≡ 2) ⊎ (b ≡ 3) → route words m r slice ≡ noRoute 20 (rank (lengthsOf s) x) slice
-  unsafe-route e = of .no-route room placed e
+  unsafe-route e = of .no-route room fits e
 
   only-unsafe : (p : ℕ) → route words m r slice .answer ≡ refused 20 p → IsUnsafe s x × (p ≡ rank (lengthsOf s) x)
   only-unsafe p q =
@@ -127,8 +127,6 @@ module _ (words m : List ℕ) (s : Set) (is-read : read words ≡ given s) (lent
 
 pub route-demand : RouteDemand
 route-demand = record {
-  routes = λ words map plan s e h r full placed slice.
-      let m = analyse words map plan .map in
-      let lent : Carries s m = rw (map-left words map plan s e h) (over-carries s map) in
-      right words m s e lent r full placed slice;
+  routes = λ words map plan s e h r full fits slice.
+      right words (analyse words map plan .map) s e (map-carries words map plan s e h) r full fits slice;
 }

@@ -55,6 +55,9 @@ end-lengths ls x g e =
     ext-getD 0 x ls (g .count) λ t h.
     by-bool (unfinished ls x t) (λ u. absurd (end-finished ls x e t u)) (λ u. omega (arith, ltb-false (at x t) (at ls t) u, g .fits t))
 
+pub before-end : (ls : List ℕ) (x : State) → InGrid ls x → (x ≡ ls → ⊥) → isEnd ls x ≡ false
+before-end ls x g n = by-bool (isEnd ls x) (λ e. absurd (n (end-lengths ls x g e))) (λ e. e)
+
 lengths-end : (ls : List ℕ) → isEnd ls ls ≡ true
 lengths-end ls = end-intro ls ls (λ t u. omega (arith, ltb-true (at ls t) (at ls t) u))
 

@@ -1,5 +1,6 @@
 -- Demand 3: a permitted state lies in an unsafe box exactly when no allowed steps lead from it to the end; after every list of bids and agains the broker's state
--- lies in no box and its grant number counts the grants modulo 2^32; as many rounds of bids as the set has actions bring every task home.
+-- lies in no box and its grant number counts the grants modulo 2^32; as many rounds of bids as the set has actions bring every task home. Each bid of a list has
+-- settings of its own; the bids of the rounds all bring the same, from 1 to 255.
 use Prim.Native.Nat.{ℕ, _%_, _≤_}
 use mathlib.Core.Path.{_≡_}
 use mathlib.Core.Logic.{_↔_}
@@ -15,11 +16,12 @@ use Rattle.model.specs.Box.{covered}
 use Rattle.model.specs.Plan.{Plan, planOf, planFrom}
 use Rattle.model.specs.Analysis.{Planned, analyse}
 use Rattle.model.specs.Record.{fresh, stateIn}
-use Rattle.model.specs.Broker.{Call, afterCalls, grantCount, IsRound, roundCalls}
+use Rattle.model.specs.Broker.{Settings, Call, afterCalls, grantCount, IsRound, roundCalls}
 use Rattle.demands.specs.MapDemand.{ReachesEnd, IsOpen, Bytes}
 use Rattle.demands.specs.Analyses.{OfAnalysis}
+use Rattle.demands.specs.Calls.{Allowed}
 
--- the state after a list of calls from a fresh record, each bid lent these words and this map, each again these words
+-- the state after a list of calls from a fresh record, each bid lent these words and this map and with settings of its own, each again these words
 abbrev pub stateAfter : List ℕ → List ℕ → List Call → State
 stateAfter words map cs = stateIn (setIn words) (afterCalls words map fresh cs)
 
@@ -27,13 +29,13 @@ stateAfter words map cs = stateIn (setIn words) (afterCalls words map fresh cs)
 pub record OfMap (words map : List ℕ) : Type 0 where
   -- each state of the grid has its byte
   pub bytes : Bytes (setIn words) map
-  -- after every list of bids and agains, refused ones among them, the state is open (so it is too at the start and after each call: every beginning of a list is one)
+  -- after every list of bids and agains, refused ones among them, whatever their settings, the state is open (so it is too at the start and after each call: every beginning of a list is one)
   pub open-after : (cs : List Call) → InGrid (lengthsOf (setIn words)) (stateAfter words map cs) × IsOpen (setIn words) (stateAfter words map cs)
   -- and the grant number is the number of bids answered Granted, modulo 2^32
   pub counted : (cs : List Call) → afterCalls words map fresh cs .grants ≡ grantCount words map fresh cs % 0x100000000
-  -- after at least as many rounds of bids as the set has actions every task is finished
-  pub finished : (rs : List (List ℕ)) → ((r : List ℕ) → List·Memᴰ r rs → IsRound (length (setIn words .tasks)) r)
-      → sum (lengthsOf (setIn words)) ≤ length rs → stateAfter words map (roundCalls rs) ≡ lengthsOf (setIn words)
+  -- under every share and window from 1 to 255 kept throughout: after at least as many rounds of bids as the set has actions every task is finished
+  pub finished : (c : Settings) → Allowed c → (rs : List (List ℕ)) → ((r : List ℕ) → List·Memᴰ r rs → IsRound (length (setIn words .tasks)) r)
+      → sum (lengthsOf (setIn words)) ≤ length rs → stateAfter words map (roundCalls c rs) ≡ lengthsOf (setIn words)
 
 -- what holds besides of the set's plan p, which an accepted analysis leaves in its slice
 pub record OfPlan (words m : List ℕ) (p : Plan) : Type 0 where

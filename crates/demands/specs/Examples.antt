@@ -1,4 +1,4 @@
--- The desk examples a to l and r (SCOPE.md, "Desk examples"), on the definitions alone.
+-- The desk examples a to l, r and t (SCOPE.md, "Desk examples"), on the definitions alone.
 use Prim.Native.Nat.{ℕ}
 use mathlib.Core.Path.{_≡_}
 use mathlib.Core.List.{List, [], _∷_, map}
@@ -13,7 +13,7 @@ use Rattle.model.specs.Plan.{ranksFrom, unsafeOf, deadOf, planOf, planWords}
 use Rattle.model.specs.PerThousand.{permittedStates, unsafeStates}
 use Rattle.model.specs.Analysis.{Analysed, analyse}
 use Rattle.model.specs.Record.{Record, fresh}
-use Rattle.model.specs.Broker.{granted, busy, held, bids, bid, afterCalls, Bid}
+use Rattle.model.specs.Broker.{Settings, granted, share-spent, busy, held, bids, bid, afterCalls, Bid}
 use Rattle.model.specs.Route.{route}
 use Rattle.demands.specs.Terms.{_to_}
 
@@ -25,10 +25,14 @@ count s b = length (ranksFrom b 0 (mapOf s))
 abbrev pub analysed : List ℕ → ℕ → ℕ → Analysed
 analysed words g n = analyse words (replicate g 255) (replicate n 0)
 
--- the answers to the bids of these tasks, each given the record as the last one left it
-unfoldable pub answers : List ℕ → List ℕ → Record → List ℕ → List (Answer Bid)
-answers words m r [] = []
-answers words m r (t ∷ ts) = bid words m r t .answer ∷ answers words m (bid words m r t .after) ts
+-- the answers to the bids of these tasks with settings c, each given the record as the last one left it
+unfoldable pub answers : List ℕ → List ℕ → Settings → Record → List ℕ → List (Answer Bid)
+answers words m c r [] = []
+answers words m c r (t ∷ ts) = bid words m c r t .answer ∷ answers words m c (bid words m c r t .after) ts
+
+-- these settings
+abbrev pub settings : ℕ → ℕ → Settings
+settings share window = record { share = share; window = window }
 
 -- example a: its words, and the map that its analysis leaves
 abbrev pub a : List ℕ
@@ -42,7 +46,7 @@ mapA = analysed a 25 11 .map
 
 -- a record on a with these two positions and this grant number
 abbrev pub recordA : ℕ → ℕ → ℕ → Record
-recordA p q n = record { positions = p ∷ q ∷ 0 ∷ 0 ∷ 0 ∷ 0 ∷ 0 ∷ 0 ∷ []; grants = n }
+recordA p q n = record { positions = p ∷ q ∷ 0 ∷ 0 ∷ 0 ∷ 0 ∷ 0 ∷ 0 ∷ []; grants = n; counts = replicate 8 0 }
 
 -- the tasks that bid in example b
 abbrev pub bidsB : List ℕ
@@ -71,7 +75,11 @@ r =
     0x10000001 ∷ 0x10000001 ∷ 0x10000001 ∷ 0x20000000 ∷ 0x30000001 ∷ 0x30000000 ∷ 0x30000002 ∷ 0x40000001 ∷ 0x30000001 ∷ 0x40000000 ∷ 0x40000001 ∷ 0x40000002
     ∷ 0x20000000 ∷ 0x30000001 ∷ 0x30000000 ∷ 0x40000000 ∷ 0x30000002 ∷ 0x40000002 ∷ 0x40000001 ∷ 0x50000013 ∷ []
 
--- SCOPE.md, "Desk examples", a to l and r
+-- the tasks that bid in example t, on a with share 1 and window 2
+abbrev pub bidsT : List ℕ
+bidsT = 0 ∷ 1 ∷ 0 ∷ 1 ∷ 0 ∷ 0 ∷ []
+
+-- SCOPE.md, "Desk examples", a to l, r and t
 pub record Examples : Type 0 where
   -- a's plan, word for word; 1 of its 20 permitted states is unsafe
   pub a-states : (unsafeStates (setIn a) ≡ 1) × (permittedStates (setIn a) ≡ 20)
@@ -80,8 +88,8 @@ pub record Examples : Type 0 where
       ≡ 0x60000000 ∷ 0x80000103 ∷ 0x80010202 ∷ 0x60000001 ∷ 0x80000202 ∷ 0x80010103
       ∷ 0x70000000 ∷ 0x80000101 ∷ 0x80010101 ∷ 0x90000006 ∷ 0x5000000A ∷ []
   -- b's answers and grant number
-  pub b-answers : answers a mapA fresh bidsB ≡ given granted ∷ given (held 6) ∷ given granted ∷ given (busy 1) ∷ given granted ∷ given granted ∷ []
-  pub b-number : afterCalls a mapA fresh (map bids bidsB) .grants ≡ 4
+  pub b-answers : answers a mapA (settings 255 255) fresh bidsB ≡ given granted ∷ given (held 6) ∷ given granted ∷ given (busy 1) ∷ given granted ∷ given granted ∷ []
+  pub b-number : afterCalls a mapA fresh (map (bids (settings 255 255)) bidsB) .grants ≡ 4
   -- c's route from (0,1)
   pub c-answer : route a mapA (recordA 0 1 0) (replicate 7 0) .answer ≡ given 7
   pub c-route : route a mapA (recordA 0 1 0) (replicate 7 0) .route ≡ 1 ∷ 1 ∷ 0 ∷ 1 ∷ 0 ∷ 0 ∷ 0 ∷ []
@@ -115,8 +123,8 @@ pub record Examples : Type 0 where
   pub j-refused : read (0x10000001 ∷ 0x20000000 ∷ 0x30000000 ∷ 0x30000000 ∷ []) ≡ refused 8 3
   pub k-refused : read (0x10000001 ∷ 0x20000000 ∷ 0x30000000 ∷ 0x50000003 ∷ []) ≡ refused 10 3
   -- l: FFFFFFFF is followed by 0
-  pub l-answer : bid a mapA (recordA 0 0 0xFFFFFFFF) 0 .answer ≡ given granted
-  pub l-number : bid a mapA (recordA 0 0 0xFFFFFFFF) 0 .after .grants ≡ 0
+  pub l-answer : bid a mapA (settings 255 255) (recordA 0 0 0xFFFFFFFF) 0 .answer ≡ given granted
+  pub l-number : bid a mapA (settings 255 255) (recordA 0 0 0xFFFFFFFF) 0 .after .grants ≡ 0
   -- r's dead states: (4, 1), rank 29, to which steps lead from the start, and (4, 3), rank 31, to which none do
   pub r-plan : analysed r 63 18 .plan
       ≡ 0x60000000 ∷ 0x80000205 ∷ 0x80010202 ∷ 0x60000001 ∷ 0x80000103 ∷ 0x80010105 ∷ 0x60000001 ∷ 0x80000506 ∷ 0x80010105
@@ -124,3 +132,14 @@ pub record Examples : Type 0 where
   -- 2 of r's 35 permitted states are unsafe, one of them not reached
   pub r-states : (unsafeStates (setIn r) ≡ 2) × (permittedStates (setIn r) ≡ 35)
   pub r-answer : analysed r 63 18 .answer ≡ given (record { words = 18; quotient = 57; remainder = 5 })
+  -- t: task 0's second grant comes since task 1 can't go on, and closes the window; its fourth bid would be granted too, but waits for task 1
+  pub t-answers : answers a mapA (settings 1 2) fresh bidsT
+      ≡ given granted ∷ given (held 6) ∷ given granted ∷ given (busy 1) ∷ given granted ∷ given share-spent ∷ []
+  pub t-closed : afterCalls a mapA fresh (map (bids (settings 1 2)) (0 ∷ 1 ∷ 0 ∷ [])) .counts ≡ replicate 8 0
+  pub t-record : afterCalls a mapA fresh (map (bids (settings 1 2)) bidsT)
+      ≡ record { positions = 3 ∷ 0 ∷ 0 ∷ 0 ∷ 0 ∷ 0 ∷ 0 ∷ 0 ∷ []; grants = 3; counts = 1 ∷ 0 ∷ 0 ∷ 0 ∷ 0 ∷ 0 ∷ 0 ∷ 0 ∷ [] }
+  -- in a window of 255 task 0 has three grants before it waits for task 1, and goes on as soon as task 1 has no share left either
+  pub t-longer : answers a mapA (settings 1 255) fresh (0 ∷ 0 ∷ 0 ∷ 0 ∷ 1 ∷ 0 ∷ [])
+      ≡ given granted ∷ given granted ∷ given granted ∷ given share-spent ∷ given granted ∷ given granted ∷ []
+  -- the grants of both tasks use up a window together
+  pub t-together : afterCalls a mapA fresh (map (bids (settings 1 4)) (0 ∷ 0 ∷ 0 ∷ 1 ∷ [])) .counts ≡ replicate 8 0

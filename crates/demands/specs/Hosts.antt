@@ -3,7 +3,7 @@ use Prim.Native.Nat.{ℕ}
 use mathlib.Core.Path.{_≡_}
 use Rattle.model.specs.Answer.{Answer, given, refused}
 use Rattle.model.specs.Set.{Set, lengthsOf, size}
-use Rattle.model.specs.Broker.{Bid, granted, finished, busy, held, Again, restarted}
+use Rattle.model.specs.Broker.{Bid, granted, finished, share-spent, busy, held, Again, restarted}
 use Rattle.model.specs.Analysis.{Planned}
 use Rattle.model.specs.StoredPlan.{Location, in-forbidden, in-unsafe, in-neither}
 use Rattle.model.specs.Told.{
@@ -52,6 +52,7 @@ pub record Hosts : Type 0 where
   pub of-unsafe : (i : ℕ) → tellLocation (given (in-unsafe i)) ≡ numbers 10 0 i
   pub of-neither : tellLocation (given in-neither) ≡ numbers 11 0 0
   pub of-cleaned : (n : ℕ) → tellCleaned (given n) ≡ numbers 12 0 n
+  pub of-spent : tellBid (given share-spent) ≡ numbers 13 0 0
   -- a set that is read is told with its grid, one that is refused as every refusal
   pub of-accepted : (s : Set) → tellReading (given s) ≡ numbers 1 0 (size (lengthsOf s))
   pub of-faulty : (n p : ℕ) → tellReading (refused n p) ≡ numbers 0 n p

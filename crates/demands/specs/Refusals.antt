@@ -7,7 +7,7 @@ use Rattle.model.specs.Read.{readBy, read}
 use Rattle.model.specs.Clean.{clean}
 use Rattle.model.specs.Analysis.{analyse}
 use Rattle.model.specs.Record.{Record}
-use Rattle.model.specs.Broker.{bid, again}
+use Rattle.model.specs.Broker.{Settings, bid, again}
 use Rattle.model.specs.State.{State}
 use Rattle.model.specs.Route.{route}
 use Rattle.model.specs.StoredPlan.{locate}
@@ -23,9 +23,9 @@ ofSet = ofFormerSet ++ (24 ∷ [])
 abbrev pub ofAnalysis : List ℕ
 ofAnalysis = ofSet ++ (13 ∷ 14 ∷ [])
 
--- a bid: a set's, 13, 16, 17, 18
+-- a bid: a set's, 13, 26, 16, 17, 18
 abbrev pub ofBid : List ℕ
-ofBid = ofSet ++ (13 ∷ 16 ∷ 17 ∷ 18 ∷ [])
+ofBid = ofSet ++ (13 ∷ 26 ∷ 16 ∷ 17 ∷ 18 ∷ [])
 
 -- again takes no map: a set's, 16, 19
 abbrev pub ofAgain : List ℕ
@@ -52,7 +52,7 @@ Only listed (refused n p) = List·Memᴰ n listed
 pub record Refusals : Type 0 where
   pub reads : (words : List ℕ) → Only ofSet (read words)
   pub analyses : (words map plan : List ℕ) → Only ofAnalysis (analyse words map plan .answer)
-  pub bids : (words map : List ℕ) (r : Record) (t : ℕ) → Only ofBid (bid words map r t .answer)
+  pub bids : (words map : List ℕ) (c : Settings) (r : Record) (t : ℕ) → Only ofBid (bid words map c r t .answer)
   pub agains : (words : List ℕ) (r : Record) → Only ofAgain (again words r .answer)
   pub routes : (words map : List ℕ) (r : Record) (slice : List ℕ) → Only ofRoute (route words map r slice .answer)
   pub reads-formerly : (words : List ℕ) → Only ofFormerSet (readBy former words)

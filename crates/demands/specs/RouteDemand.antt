@@ -14,7 +14,7 @@ use Rattle.model.specs.Analysis.{analyse}
 use Rattle.model.specs.Record.{Record, stateIn}
 use Rattle.model.specs.Route.{Routed, route}
 use Rattle.demands.specs.MapDemand.{IsOpen, IsUnsafe}
-use Rattle.demands.specs.Calls.{Misplaced, noRoute}
+use Rattle.demands.specs.Calls.{Unfit, noRoute}
 
 -- the actions left at a state
 abbrev pub actionsLeft : Set → State → ℕ
@@ -45,7 +45,7 @@ pub record RouteRight (s : Set) (x : State) (slice : List ℕ) (out : Routed) : 
 
 -- the route's demand
 pub record RouteDemand : Type 0 where
-  -- for all words that read as a set and a map slice with room for its map, as the analysis leaves it, and every record whose eight positions are in place
+  -- for all words that read as a set and a map slice with room for its map, as the analysis leaves it, and every record of eight positions that fits the set
   pub routes : (words map plan : List ℕ) (s : Set) → read words ≡ given s → size (lengthsOf s) ≤ length map
-      → (r : Record) → length (r .positions) ≡ 8 → (Misplaced s r → ⊥) → (slice : List ℕ)
+      → (r : Record) → length (r .positions) ≡ 8 → (Unfit s r → ⊥) → (slice : List ℕ)
       → RouteRight s (stateIn s r) slice (route words (analyse words map plan .map) r slice)

@@ -2,6 +2,7 @@
 use crate::lines::UNTOUCHED;
 use crate::lines::again_line;
 use crate::lines::bid_line;
+use crate::lines::largest;
 use crate::lines::route_line;
 use crate::lines::say_record;
 use crate::sets::GRID_OF_A;
@@ -13,18 +14,19 @@ const LARGEST_TASK: usize = 0xFFFF_FFFF_FFFF_FFFF;
 const LARGEST_GRANT: u32 = 0xFFFF_FFFF;
 
 // The set has so many actions; a route slice needs a byte for each.
-const ACTIONS: usize = 8;
+pub const ACTIONS: usize = 8;
 
 const TOO_FEW: usize = ACTIONS - 1;
 
 // A byte that no map has.
-const NO_BYTE: u8 = 4;
+pub const NO_BYTE: u8 = 4;
 
 // The record of the first two tasks' positions, before any grant.
-fn at_state(p: u8, q: u8) -> Record {
+pub fn at_state(p: u8, q: u8) -> Record {
     Record {
         positions: [p, q, 0, 0, 0, 0, 0, 0],
         grants: 0,
+        counts: [0; model::MAX_TASKS],
     }
 }
 
@@ -46,14 +48,15 @@ pub fn last_number(words: &[u32], map: &[u8]) {
     let rec = Record {
         positions: [0; model::MAX_TASKS],
         grants: LARGEST_GRANT,
+        counts: [0; model::MAX_TASKS],
     };
     bid_line(words, map, rec, 0);
 }
 
 // The record after a round of two bids, the later task's first.
 fn round(words: &[u32], map: &[u8], rec: Record) -> Record {
-    let first = broker::bid(words, map, rec, 1);
-    let second = broker::bid(words, map, first.after, 0);
+    let first = broker::bid(words, map, rec, 1, largest());
+    let second = broker::bid(words, map, first.after, 0, largest());
     second.after
 }
 
@@ -98,6 +101,7 @@ pub fn spoilt_records(words: &[u32], map: &[u8]) {
     let absent = Record {
         positions: [0, 0, 1, 0, 0, 0, 0, 0],
         grants: 0,
+        counts: [0; model::MAX_TASKS],
     };
     bid_line(words, map, absent, 0);
     bid_line(words, &[0, 0, 0], Record::fresh(), 0);

@@ -1,4 +1,5 @@
 // A call's line: its answer, and what it left of the slices and the record.
+use broker::Settings;
 use reader::Verdict;
 use records::Record;
 use route::RouteAnswer;
@@ -49,12 +50,38 @@ pub fn read_line(label: &[u8], words: &[u32]) {
     console::text(b"\n");
 }
 
-// A bid, its answer, and the record after it.
+// The largest settings, with which no share is spent.
+pub fn largest() -> Settings {
+    Settings {
+        share: model::MAX_SETTING,
+        window: model::MAX_SETTING,
+    }
+}
+
+// A bid with the largest settings, its answer, and the record after it.
 pub fn bid_line(words: &[u32], map: &[u8], rec: Record, task: usize) -> Record {
-    let served = broker::bid(words, map, rec, task);
+    console::named(b"bid ", task);
+    say_bid(words, map, rec, task, largest())
+}
+
+// A bid with settings that are shown.
+pub fn share_line(
+    words: &[u32],
+    map: &[u8],
+    rec: Record,
+    task: usize,
+    settings: Settings,
+) -> Record {
+    console::named(b"bid ", task);
+    console::named(b", share ", settings.share as usize);
+    console::named(b", window ", settings.window as usize);
+    say_bid(words, map, rec, task, settings)
+}
+
+fn say_bid(words: &[u32], map: &[u8], rec: Record, task: usize, settings: Settings) -> Record {
+    let served = broker::bid(words, map, rec, task, settings);
     let answer = served.answer;
     let after = served.after;
-    console::named(b"bid ", task);
     console::text(b": ");
     console::bid(answer);
     say_record(after);
@@ -71,13 +98,20 @@ pub fn again_line(words: &[u32], rec: Record) -> Record {
     after
 }
 
-// The end of a line: the two tasks' positions and the grant number.
+// The end of a line: the two tasks' positions, the grant number and the two tasks' counts.
 pub fn say_record(rec: Record) {
     let positions = rec.positions;
-    console::named(b", then at ", positions[0] as usize);
-    console::named(b" ", positions[1] as usize);
+    let counts = rec.counts;
+    say_two(b", then at", positions);
     console::named(b", number ", rec.grants as usize);
+    say_two(b", counts", counts);
     console::text(b"\n");
+}
+
+fn say_two(label: &[u8], numbers: [u8; model::MAX_TASKS]) {
+    console::text(label);
+    say_number(numbers[0]);
+    say_number(numbers[1]);
 }
 
 // A route into a slice, and the slice afterwards.
@@ -92,14 +126,14 @@ pub fn route_line(words: &[u32], map: &[u8], rec: Record, slice: &mut [u8]) {
     console::text(b"\n");
 }
 
-fn say_step(step: u8) {
-    console::named(b" ", step as usize);
+fn say_number(n: u8) {
+    console::named(b" ", n as usize);
 }
 
 pub fn say_steps(steps: &[u8]) {
     let mut i = 0;
     while i < steps.len() {
-        say_step(steps[i]);
+        say_number(steps[i]);
         i += 1;
     }
 }

@@ -4,6 +4,7 @@ mod lines;
 mod long;
 mod questions;
 mod sets;
+mod shares;
 mod stored;
 
 fn main() {
@@ -16,6 +17,7 @@ fn main() {
     calls::routes(&words, &map);
     calls::spoilt_records(&words, &map);
     calls::spoilt_maps(&words);
+    shares::on_a(&words, &map);
     sets::mapped_sets();
     sets::longer_slice();
     sets::small_sets();

@@ -1,7 +1,7 @@
 -- What a test that passes or fails tells: `&&`, `||`, `not`, `any`.
 use Prim.Native.Nat.{ℕ, zero, suc, _+_, _<_, _≤_}
 use native.Mathlib.Omega.{arith}
-use native.Mathlib.Nat.{eq-or-lt-of-le, le-of-suc-le-suc}
+use native.Mathlib.Nat.{eq-or-lt-of-le, le-antisymm, le-of-suc-le-suc}
 use native.Mathlib.Numerals.{add-one}
 use mathlib.Core.Path.{_≡_, refl, sym, _∙_}
 use mathlib.Core.Logic.{_⊎_, inl, inr}
@@ -72,6 +72,10 @@ any-none n f h = by-bool (any n f) (λ k. let r = any-true n f k in true-not-fal
 pub any-more : (n : ℕ) (f : ℕ → Bool) → any n f ≡ false → f n ≡ false → any (n + 1) f ≡ false
 unfolding any
 any-more n f e h = rw (add-one n, h) e
+
+-- a loop from 0 to n has come to its end without a number that passes
+pub any-whole : (f : ℕ → Bool) (n t : ℕ) → t ≤ n → n ≤ t → any t f ≡ false → any n f ≡ false
+any-whole f n t a b e = rw (le-antisymm b a) e
 
 -- tests that agree on the numbers below n
 pub any-same : (n : ℕ) (f g : ℕ → Bool) → ((t : ℕ) → t < n → f t ≡ g t) → any n f ≡ any n g

@@ -1,5 +1,5 @@
--- The broker's laws from three facts: a grant is a step to an open state, without a grant nothing changes, and before the end a round of bids holds a grant.
--- They hold of every broker that has these, whatever its record and however it decides.
+-- The broker's laws from three facts: a grant is a step to an open state, without a grant nothing changes, and before the end a round of bids with settings
+-- kept holds a grant. They hold of every broker that has these, whatever its record and settings and however it decides.
 use Prim.Native.Nat.{ℕ, _+_, _%_, _<_, _≤_}
 use native.Mathlib.Omega.{arith}
 use native.Mathlib.Nat.{mod-lt, mod-eq-of-lt, mod-add-mod, add-assoc}
@@ -9,7 +9,7 @@ use mathlib.Core.List.{List, [], _∷_, _++_, map, List·Memᴰ, List·Memᴰ·c
 use lib.ListN.{length}
 use borrow.Author.Tests.{ltb-true, ltb-false}
 use Rattle.model.specs.State.{State, InGrid, next, unfinished, isEnd, sum}
-use Rattle.model.specs.Broker.{Call, bids, agains, afterList, grantedIn, IsRound, roundCalls}
+use Rattle.model.specs.Broker.{Settings, Call, bids, agains, afterList, grantedIn, IsRound, roundCalls, Keeps}
 use Rattle.model.proofs.Bools.{by-bool, by-cases, true-not-false}
 use Rattle.model.proofs.States.{unfinished-task, end-intro, end-finished}
 use Rattle.model.proofs.Sums.{sum-next, sum-le, sum-lt}
@@ -45,17 +45,17 @@ module _ {R : Type 0} (afterCall : R → Call → R) where
     unfolding grantedIn
     first-other r c cs e = ap (λ b. cond b 1 0 + grantedIn afterCall isGrant (afterCall r c) cs) e ∙ omega arith
 
-    -- where a bid would be granted now, a list of bids that names its task holds a grant
-    pub named-granted : ((r : R) (t : ℕ) → isGrant r (bids t) ≡ false → afterCall r (bids t) ≡ r)
-        → (r : R) (t : ℕ) → isGrant r (bids t) ≡ true → (ts : List ℕ) → List·Memᴰ t ts → 0 < grantedIn afterCall isGrant r (map bids ts)
-    named-granted stays r t e [] i = absurd (List·Memᴰ·not-nil i)
-    named-granted stays r t e (u ∷ ts) i =
-        by-bool (isGrant r (bids u))
-        (λ f. rw (first-granted r (bids u) (map bids ts) f) (omega arith))
+    -- where a bid is granted now, a list of bids with the same settings that names its task holds a grant
+    pub named-granted : (c : Settings) → ((r : R) (t : ℕ) → isGrant r (bids c t) ≡ false → afterCall r (bids c t) ≡ r)
+        → (r : R) (t : ℕ) → isGrant r (bids c t) ≡ true → (ts : List ℕ) → List·Memᴰ t ts → 0 < grantedIn afterCall isGrant r (map (bids c) ts)
+    named-granted c stays r t e [] i = absurd (List·Memᴰ·not-nil i)
+    named-granted c stays r t e (u ∷ ts) i =
+        by-bool (isGrant r (bids c u))
+        (λ f. rw (first-granted r (bids c u) (map (bids c) ts) f) (omega arith))
         (λ f.
         by-cases (List·Memᴰ·cases-cons i)
-        (λ q. true-not-false (isGrant r (bids t)) e (rw q f))
-        (λ j. rw (first-other r (bids u) (map bids ts) f, stays r u f) (named-granted stays r t e ts j)))
+        (λ q. true-not-false (isGrant r (bids c t)) e (rw q f))
+        (λ j. rw (first-other r (bids c u) (map (bids c) ts) f, stays r u f) (named-granted c stays r t e ts j)))
 
     -- a number in the record that counts the grants modulo 4,294,967,296
     module _ (number : R → ℕ) (counts : (r : R) (c : Call) → number r < 0x100000000 → number (afterCall r c) ≡ (number r + cond (isGrant r c) 1 0) % 0x100000000) where
@@ -71,55 +71,86 @@ module _ {R : Type 0} (afterCall : R → Call → R) where
           list-counts (afterCall r c) cs below ∙ ap (λ a. (a + n) % 0x100000000) counted
           ∙ mod-add-mod (number r + k) 0x100000000 n ∙ ap (λ a. a % 0x100000000) (add-assoc (number r) k n)
 
-module _ (ls : List ℕ) (permitted : State → Bool) {R : Type 0} (state : R → State) (InService : R → Type 0) (afterCall : R → Call → R) (isGrant : R → Call → Bool) where
-  -- what a broker needs: a record in service has an open state, and keeps in service at every call
+-- what a bid with settings c and an again keep, every list of calls with these settings keeps: of one record, or of the records of two brokers side by side
+module _ {R F : Type 0} (afterR : R → Call → R) (afterF : F → Call → F) (c : Settings) (Kept : R → F → Type 0)
+    (of-bid : (t : ℕ) (r : R) (f : F) → Kept r f → Kept (afterR r (bids c t)) (afterF f (bids c t)))
+    (of-again : (r : R) (f : F) → Kept r f → Kept (afterR r agains) (afterF f agains)) where
+  call-keeps : (k : Call) → ((d : Settings) (t : ℕ) → k ≡ bids d t → d ≡ c) → (r : R) (f : F) → Kept r f → Kept (afterR r k) (afterF f k)
+  call-keeps (bids d t) same r f q = let e : d ≡ c = same d t refl in rw e (of-bid t r f q)
+  call-keeps agains same r f q = of-again r f q
+
+  pub list-keeps : (cs : List Call) → Keeps c cs → (r : R) (f : F) → Kept r f → Kept (afterList afterR r cs) (afterList afterF f cs)
+  unfolding afterList
+  list-keeps [] kept r f q = q
+  list-keeps (k ∷ cs) kept r f q =
+      list-keeps cs (λ d t j. kept d t (List·Memᴰ·tail j)) (afterR r k) (afterF f k) (call-keeps k (λ d t e. kept d t (List·Memᴰ·head (sym e))) r f q)
+
+module _ (ls : List ℕ) (permitted : State → Bool) {R : Type 0} (state : R → State) (InService : R → Type 0) (Within : Settings → R → Type 0)
+    (afterCall : R → Call → R) (isGrant : R → Call → Bool) where
+  -- what a broker needs: a record in service has an open state, and keeps in service at every call, whatever its settings
   pub record Facts : Type 0 where
     pub good : (r : R) → InService r → Good ls permitted (state r)
     pub restarts : (r : R) → InService r → InService (afterCall r agains)
     -- a grant is one step of its task
-    pub steps : (r : R) → InService r → (t : ℕ) → isGrant r (bids t) ≡ true
-        → (unfinished ls (state r) t ≡ true) × (state (afterCall r (bids t)) ≡ next (state r) t) × InService (afterCall r (bids t))
+    pub steps : (r : R) → InService r → (c : Settings) (t : ℕ) → isGrant r (bids c t) ≡ true
+        → (unfinished ls (state r) t ≡ true) × (state (afterCall r (bids c t)) ≡ next (state r) t) × InService (afterCall r (bids c t))
     -- without a grant nothing changes
-    pub stays : (r : R) (t : ℕ) → isGrant r (bids t) ≡ false → afterCall r (bids t) ≡ r
-    -- before the end a round of bids holds a grant
-    pub round-grants : (r : R) → InService r → isEnd ls (state r) ≡ false → (ts : List ℕ) → IsRound (length ls) ts
-        → 0 < grantedIn afterCall isGrant r (map bids ts)
+    pub stays : (r : R) (c : Settings) (t : ℕ) → isGrant r (bids c t) ≡ false → afterCall r (bids c t) ≡ r
+    -- a record within settings that are kept stays within them
+    pub keeps-within : (c : Settings) (r : R) (t : ℕ) → Within c r → Within c (afterCall r (bids c t))
+    pub restarts-within : (c : Settings) (r : R) → Within c r → Within c (afterCall r agains)
+    -- and there, before the end, a round of bids holds a grant
+    pub round-grants : (c : Settings) (r : R) → InService r → Within c r → isEnd ls (state r) ≡ false → (ts : List ℕ) → IsRound (length ls) ts
+        → 0 < grantedIn afterCall isGrant r (map (bids c) ts)
 
   module _ (facts : Facts) where
-    call-serves : (r : R) (c : Call) → InService r → InService (afterCall r c)
-    call-serves r (bids t) i = by-bool (isGrant r (bids t)) (λ e. facts .steps r i t e .2) (λ e. rw (facts .stays r t e) i)
+    call-serves : (r : R) (k : Call) → InService r → InService (afterCall r k)
+    call-serves r (bids c t) i = by-bool (isGrant r (bids c t)) (λ e. facts .steps r i c t e .2) (λ e. rw (facts .stays r c t e) i)
     call-serves r agains i = facts .restarts r i
 
     -- after every list of calls the record is in service, so that its state is open
     pub list-serves : (r : R) (cs : List Call) → InService r → InService (afterList afterCall r cs)
     unfolding afterList
     list-serves r [] i = i
-    list-serves r (c ∷ cs) i = list-serves (afterCall r c) cs (call-serves r c i)
+    list-serves r (k ∷ cs) i = list-serves (afterCall r k) cs (call-serves r k i)
 
-    -- each grant of a list of bids does one action
-    pub bids-sum : (r : R) (ts : List ℕ) → InService r → sum (state (afterList afterCall r (map bids ts))) ≡ sum (state r) + grantedIn afterCall isGrant r (map bids ts)
-    bids-sum r [] i = unfold afterList in unfold grantedIn in omega arith
-    bids-sum r (t ∷ ts) i =
-        by-bool (isGrant r (bids t))
-        (λ e.
-        let s = facts .steps r i t e in
-        let l = unfinished-task ls (state r) t (s .0) in
-        let one : sum (state (afterCall r (bids t))) ≡ 1 + sum (state r) = rw (s .1) (omega (arith, sum-next (state r) t (omega (arith, facts .good r i .grid .count)))) in
-        rw (after-first afterCall r (bids t) (map bids ts))
-        (omega (arith, first-granted afterCall isGrant r (bids t) (map bids ts) e, bids-sum (afterCall r (bids t)) ts (s .2))))
-        (λ e.
-        rw (after-first afterCall r (bids t) (map bids ts), first-other afterCall isGrant r (bids t) (map bids ts) e, facts .stays r t e) (bids-sum r ts i))
+    module _ (c : Settings) where
+      -- after every list of calls with settings kept throughout it is within them
+      list-within : (r : R) (cs : List Call) → Keeps c cs → Within c r → Within c (afterList afterCall r cs)
+      list-within r cs kept w =
+          list-keeps afterCall afterCall c (λ q f. Within c q) (λ t q f v. facts .keeps-within c q t v) (λ q f v. facts .restarts-within c q v) cs kept r r w
 
-    -- as many rounds as actions are left finish every task
-    pub rounds-end : (rs : List (List ℕ)) → ((ts : List ℕ) → List·Memᴰ ts rs → IsRound (length ls) ts) → (r : R) → InService r
-        → sum ls ≤ sum (state r) + length rs → isEnd ls (state (afterList afterCall r (roundCalls rs))) ≡ true
-    unfolding roundCalls
-    rounds-end [] named r i h =
-        unfold afterList in end-intro ls (state r) λ t u. let l = sum-lt ls (state r) (facts .good r i .grid) t (ltb-true _ _ u) in omega arith
-    rounds-end (ts ∷ rs) named r i h =
-        let rest = rounds-end rs (λ us j. named us (List·Memᴰ·tail j)) (afterList afterCall r (map bids ts)) (list-serves r (map bids ts) i) in
-        let done = bids-sum r ts i in
-        rw (after-append afterCall r (map bids ts) (roundCalls rs))
-        (by-bool (isEnd ls (state r))
-        (λ e. rest (omega (arith, end-sum ls (state r) (facts .good r i .grid) e)))
-        (λ e. rest (omega (arith, facts .round-grants r i e ts (named ts (List·Memᴰ·head refl))))))
+      -- each grant of a list of bids does one action
+      pub bids-sum : (r : R) (ts : List ℕ) → InService r
+          → sum (state (afterList afterCall r (map (bids c) ts))) ≡ sum (state r) + grantedIn afterCall isGrant r (map (bids c) ts)
+      bids-sum r [] i = unfold afterList in unfold grantedIn in omega arith
+      bids-sum r (t ∷ ts) i =
+          by-bool (isGrant r (bids c t))
+          (λ e.
+          let s = facts .steps r i c t e in
+          let l = unfinished-task ls (state r) t (s .0) in
+          let one : sum (state (afterCall r (bids c t))) ≡ 1 + sum (state r) = rw (s .1) (omega (arith, sum-next (state r) t (omega (arith, facts .good r i .grid .count)))) in
+          rw (after-first afterCall r (bids c t) (map (bids c) ts))
+          (omega (arith, first-granted afterCall isGrant r (bids c t) (map (bids c) ts) e, bids-sum (afterCall r (bids c t)) ts (s .2))))
+          (λ e.
+          rw (after-first afterCall r (bids c t) (map (bids c) ts), first-other afterCall isGrant r (bids c t) (map (bids c) ts) e, facts .stays r c t e) (bids-sum r ts i))
+
+      -- the bids of a round keep its settings
+      pub round-keeps : (ts : List ℕ) → Keeps c (map (bids c) ts)
+      round-keeps [] d t j = absurd (List·Memᴰ·not-nil j)
+      round-keeps (u ∷ ts) d t j = by-cases (List·Memᴰ·cases-cons j) (λ e. cc) (λ k. round-keeps ts d t k)
+
+      -- as many rounds as actions are left finish every task
+      pub rounds-end : (rs : List (List ℕ)) → ((ts : List ℕ) → List·Memᴰ ts rs → IsRound (length ls) ts) → (r : R) → InService r → Within c r
+          → sum ls ≤ sum (state r) + length rs → isEnd ls (state (afterList afterCall r (roundCalls c rs))) ≡ true
+      unfolding roundCalls
+      rounds-end [] named r i w h =
+          unfold afterList in end-intro ls (state r) λ t u. let l = sum-lt ls (state r) (facts .good r i .grid) t (ltb-true _ _ u) in omega arith
+      rounds-end (ts ∷ rs) named r i w h =
+          let after = afterList afterCall r (map (bids c) ts) in
+          let rest = rounds-end rs (λ us j. named us (List·Memᴰ·tail j)) after (list-serves r (map (bids c) ts) i) (list-within r (map (bids c) ts) (round-keeps ts) w) in
+          let done = bids-sum r ts i in
+          rw (after-append afterCall r (map (bids c) ts) (roundCalls c rs))
+          (by-bool (isEnd ls (state r))
+          (λ e. rest (omega (arith, end-sum ls (state r) (facts .good r i .grid) e)))
+          (λ e. rest (omega (arith, facts .round-grants c r i w e ts (named ts (List·Memᴰ·head refl))))))

@@ -1,4 +1,4 @@
--- The actions done at a state, against those of the set.
+-- Sums: the actions done at a state, against those of the set; and that no number of a list is over its sum.
 use Prim.Native.Nat.{ℕ, zero, suc, _<_, _≤_}
 use native.Mathlib.Omega.{arith}
 use native.Mathlib.Nat.{le-of-suc-le-suc}
@@ -14,6 +14,13 @@ unfolding sum
 sum-next [] t h = absurd (omega arith)
 sum-next (p ∷ x) zero h = omega arith
 sum-next (p ∷ x) (suc t) h = omega (arith, sum-next x t (le-of-suc-le-suc h))
+
+-- none of the numbers is over their sum
+pub at-sum : (l : List ℕ) (t : ℕ) → at l t ≤ sum l
+unfolding sum
+at-sum [] t = omega arith
+at-sum (a ∷ l) zero = omega arith
+at-sum (a ∷ l) (suc t) = omega (arith, at-sum l t)
 
 pub sum-le : (ls : List ℕ) (x : State) → InGrid ls x → sum x ≤ sum ls
 unfolding sum

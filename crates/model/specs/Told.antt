@@ -6,12 +6,12 @@ use Rattle.model.specs.Answer.{Answer, given, refused, ifGiven}
 use Rattle.model.specs.Set.{lengthsOf, size}
 use Rattle.model.specs.Read.{Reading}
 use Rattle.model.specs.Analysis.{Planned}
-use Rattle.model.specs.Broker.{Bid, granted, finished, busy, held, Again, restarted}
+use Rattle.model.specs.Broker.{Bid, granted, finished, share-spent, busy, held, Again, restarted}
 use Rattle.model.specs.StoredPlan.{Location, in-forbidden, in-unsafe, in-neither}
 
--- the version of the library, 4.0.0: major times 10,000, minor times 100, patch
+-- the version of the library, 5.0.0: major times 10,000, minor times 100, patch
 abbrev pub VERSION : ℕ
-VERSION = 40000
+VERSION = 50000
 
 -- a kind, a refusal's number and a value; 0 where there is none
 pub record Told : Type 0 where
@@ -37,6 +37,7 @@ bidNumbers granted = plain 4
 bidNumbers finished = plain 5
 bidNumbers (busy d) = valued 6 d
 bidNumbers (held r) = valued 7 r
+bidNumbers share-spent = plain 13
 
 -- each value of a question to a stored plan
 unfoldable pub locationNumbers : Location → Told
@@ -91,7 +92,8 @@ bidHeard a =
     cond (eqb (a .kind) 4) granted
     (cond (eqb (a .kind) 5) finished
     (cond (eqb (a .kind) 6) (busy (a .value))
-    (held (a .value))))
+    (cond (eqb (a .kind) 7) (held (a .value))
+    share-spent)))
 
 -- an analysis: the number, and the two beside it
 abbrev pub hearAnalysis : AnalysisTold → Answer Planned

@@ -2,23 +2,24 @@
 use Prim.Native.Nat.{ℕ, _<_, _≤_}
 use native.Mathlib.Omega.{arith}
 use mathlib.Core.Path.{_≡_, sym, ap, _∙_}
-use mathlib.Core.Bool.{Bool, true, false, not}
+use mathlib.Core.Bool.{Bool, true, false, not, _&&_}
 use mathlib.Core.List.{List}
 use lib.ListN.{length, length-map, List·getD-eq-default}
 use lib.Seq.{getD-take, length-take-le}
-use lib.Dec.{ltb}
+use lib.Dec.{ltb, leb}
 use borrow.Author.Tests.{lt-ltb, ltb-true, ltb-false}
 use Rattle.model.specs.Below.{any}
 use Rattle.model.specs.Set.{Set, lengthsOf, at, size}
-use Rattle.model.specs.State.{isEnd, rank, InGrid}
+use Rattle.model.specs.State.{isEnd, InGrid}
 use Rattle.model.specs.Answer.{given, refused}
-use Rattle.model.specs.Record.{Record, stateIn, misplaced, mapFits, placed}
-use Rattle.model.proofs.Bools.{by-bool, true-not-false, any-true, any-false, any-intro, any-same}
+use Rattle.model.specs.Record.{Record, stateIn, misplaced, miscounted, unfit, mapFits, placed}
+use Rattle.model.proofs.Bools.{by-bool, true-not-false, or-false, any-true, any-false, any-intro, any-same}
 use Rattle.model.proofs.States.{unfinished-task, end-finished, end-intro}
 use Rattle.model.proofs.Ranks.{rank-lt}
 use Rattle.shape.specs.declared.Shape.{Shape}
 use Rattle.shape.specs.Declares.{Declares}
 use Rattle.shape.proofs.Declared.{length-at, tasks-are, few-tasks}
+use Rattle.records.specs.Ranked.{Ranked}
 
 -- the test of `some_above`: place t of the numbers is over its limit
 abbrev pub above : List ℕ → List ℕ → ℕ → Bool
@@ -33,6 +34,11 @@ module _ {words : List ℕ} {shape : Shape} {s : Set} (d : Declares words shape 
     pub misplaced-is : any 8 (above (shape .lengths) (r .positions)) ≡ misplaced s r
     unfolding misplaced
     misplaced-is = any-same 8 _ _ (λ t _. rw (length-at d t))
+
+    -- and its number of tasks whether an absent one has a count
+    pub miscounted-is : any 8 (λ t. leb (shape .tasks) t && ltb 0 (at (r .counts) t)) ≡ miscounted s r
+    unfolding miscounted
+    miscounted-is = rw (tasks-are d)
 
     -- a task of the set is as far as its place in the record says
     pub position-is : (t : ℕ) → t < shape .tasks → at (stateIn s r) t ≡ at (r .positions) t
@@ -93,24 +99,17 @@ module _ (s : Set) (m : List ℕ) where
   map-fits e = rw e
 
 module _ (s : Set) (r : Record) where
-  pub not-placed : misplaced s r ≡ true → placed s r ≡ refused 16 0
+  pub not-placed : unfit s r ≡ true → placed s r ≡ refused 16 0
   unfolding placed
   not-placed e = rw e
 
-  pub is-placed : misplaced s r ≡ false → placed s r ≡ given (stateIn s r)
+  pub is-placed : unfit s r ≡ false → placed s r ≡ given (stateIn s r)
   unfolding placed
   is-placed e = rw e
 
--- what a call knows once the rank k of its record's state is made: the map m has room, and the eight positions fit
-pub record Ranked (s : Set) (m : List ℕ) (r : Record) (k : ℕ) : Type 0 where
-  pub eight : length (r .positions) ≡ 8
-  pub room : ltb (length m) (size (lengthsOf s)) ≡ false
-  pub right : misplaced s r ≡ false
-  pub ranked : k ≡ rank (lengthsOf s) (stateIn s r)
-
 module _ {words : List ℕ} {shape : Shape} {s : Set} (d : Declares words shape s) {m : List ℕ} {r : Record} {k : ℕ} (f : Ranked s m r k) where
   pub ranked-grid : InGrid (lengthsOf s) (stateIn s r)
-  ranked-grid = state-grid d r (f .eight) (f .right)
+  ranked-grid = state-grid d r (f .eight) (or-false (misplaced s r) (miscounted s r) (f .fits) .0)
 
   -- the state's own byte stands in the map
   pub ranked-inside : k < length m

@@ -2,6 +2,6 @@
 use Rattle.model.specs.Record as model
 use Rattle.records.specs.declared.Record.{Record}
 
--- the eight positions and the grant number
+-- the eight positions, the grant number and the eight counts
 abbrev pub recordOf : Record → model.Record
-recordOf r = record { positions = r .positions; grants = r .grants }
+recordOf r = record { positions = r .positions; grants = r .grants; counts = r .counts }

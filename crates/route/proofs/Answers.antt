@@ -11,13 +11,14 @@ use Rattle.model.specs.Answer.{Answer, given, refused, _then_, ifGiven}
 use Rattle.model.specs.Set.{Set, lengthsOf, at, size}
 use Rattle.model.specs.State.{State, isEnd, rank}
 use Rattle.model.specs.Read.{read}
-use Rattle.model.specs.Record.{Record, misplaced}
+use Rattle.model.specs.Record.{Record, unfit}
 use Rattle.model.specs.Route.{stepsFrom, walked, routeFrom, routeFits, routeSteps, route}
 use Rattle.model.proofs.Ranks.{rank-lt}
 use Rattle.shape.specs.declared.Shape.{Shape}
 use Rattle.shape.specs.Declares.{Declares}
 use Rattle.shape.proofs.Declared.{tasks-are, grid-is, few-tasks, lengths-all, lengths-taken, weight-at}
-use Rattle.records.proofs.Placed.{map-short, map-fits, not-placed, is-placed, Ranked, ranked-grid}
+use Rattle.records.specs.Ranked.{Ranked}
+use Rattle.records.proofs.Placed.{map-short, map-fits, not-placed, is-placed, ranked-grid}
 use Rattle.route.specs.declared.Stop.{Stop}
 use Rattle.route.specs.Walks.{OnGrid, WalkDone, fitted}
 use Rattle.route.proofs.LastRank.{before-end}
@@ -58,9 +59,9 @@ module _ {words : List ℕ} {shape : Shape} {s : Set} (d : Declares words shape 
   unfolding routeSteps _then_
   short e = rw (map-short s m e, grid-is d)
 
-  pub bad-positions : ltb (length m) (size (lengthsOf s)) ≡ false → misplaced s r ≡ true → refused 16 0 ≡ routeSteps s m r
+  pub bad-record : ltb (length m) (size (lengthsOf s)) ≡ false → unfit s r ≡ true → refused 16 0 ≡ routeSteps s m r
   unfolding routeSteps _then_
-  bad-positions room e = rw (map-fits s m room, not-placed s r e)
+  bad-record room e = rw (map-fits s m room, not-placed s r e)
 
   -- then by the own byte of the state, whose rank is k
   module _ (k : ℕ) (f : Ranked s m r k) where
@@ -80,24 +81,24 @@ module _ {words : List ℕ} {shape : Shape} {s : Set} (d : Declares words shape 
 
     pub own-forbidden : at m k ≡ 1 → refused 16 0 ≡ routeSteps s m r
     unfolding routeSteps _then_
-    own-forbidden e = rw (map-fits s m (f .room), is-placed s r (f .right), ← f .ranked, eq-eqb (at m k) 1 e)
+    own-forbidden e = rw (map-fits s m (f .room), is-placed s r (f .fits), ← f .ranked, eq-eqb (at m k) 1 e)
 
     pub own-unsafe : 1 < at m k → at m k ≤ 3 → refused 20 k ≡ routeSteps s m r
     unfolding routeSteps _then_
     own-unsafe l h =
-        rw (map-fits s m (f .room), is-placed s r (f .right), ← f .ranked)
+        rw (map-fits s m (f .room), is-placed s r (f .fits), ← f .ranked)
         (rw (ne-eqb (at m k) 1 (omega arith), le-ltb 3 (at m k) h, ne-eqb (at m k) 0 (omega arith)))
 
     pub own-unknown : 3 < at m k → refused 18 k ≡ routeSteps s m r
     unfolding routeSteps _then_
     own-unknown l =
-        rw (map-fits s m (f .room), is-placed s r (f .right), ← f .ranked)
+        rw (map-fits s m (f .room), is-placed s r (f .fits), ← f .ranked)
         (rw (ne-eqb (at m k) 1 (omega arith), lt-ltb 3 (at m k) l))
 
     pub own-open : at m k ≡ 0 → routeFrom (take (shape .tasks) (shape .lengths)) m (take (shape .tasks) (r .positions)) ≡ routeSteps s m r
     unfolding routeSteps _then_
     own-open e =
-        rw (lengths-taken d, state-is, map-fits s m (f .room), is-placed s r (f .right), ← f .ranked, e)
+        rw (lengths-taken d, state-is, map-fits s m (f .room), is-placed s r (f .fits), ← f .ranked, e)
 
 -- the reader's part
 module _ (words m : List ℕ) (r : Record) (slice : List ℕ) where

@@ -136,7 +136,7 @@ fn route_on(map: &[u8], shape: Shape, rec: Record, slice: &mut [u8]) -> RouteAns
     if records::too_short(map, shape) {
         return refuse(model::MAP_TOO_SHORT, shape.grid, slice);
     }
-    if records::misplaced(rec, shape) {
+    if records::unfit(rec, shape) {
         return refuse(model::BAD_RECORD, 0, slice);
     }
     let rank = records::rank_of(rec, shape);

@@ -1,11 +1,35 @@
-//! serve SETFILE: reads a set (four bytes a word, lowest first), analyses it, serves rounds of bids until every task is finished, starts
-//! anew and prints the route from the start. The same program in C is `c/serve.c`, in Python `python/serve.py`; all print the same.
+//! serve SETFILE [SHARE WINDOW]: reads a set (four bytes a word, lowest first), analyses it, serves rounds of bids until every task is finished, starts
+//! anew and prints the route from the start. Each bid brings SHARE and WINDOW; without them both are 255, and no share is ever spent. The same program
+//! in C is `c/serve.c`, in Python `python/serve.py`; all print the same.
 //!
-//! Exit status: 0; 1 if a call was refused, with the refusal as the last line; 2 if the file can't be read or standard output not written.
+//! Exit status: 0; 1 if a call was refused, with the refusal as the last line; 2 if the arguments are wrong, the file can't be read or standard output not written.
 
-use arbiter::{words_of, Analysed, BidAnswer, BoxKind, Refused, Service};
+use arbiter::{words_of, Analysed, BidAnswer, BoxKind, Refused, Service, Settings};
+use std::ffi::{OsStr, OsString};
 use std::io::{stdout, Write};
 use std::process::ExitCode;
+
+const USAGE: &str = "usage: serve SETFILE [SHARE WINDOW]";
+
+/// The number in an argument of decimal digits, at most u32::MAX: what isn't 1 to 255 is for the library to refuse, and must not be cut to what is.
+fn number(argument: &OsStr) -> Option<u32> {
+    let text = argument.to_str()?;
+    let add = |sum: u32, digit: u8| sum.saturating_mul(10).saturating_add(u32::from(digit - b'0'));
+    (!text.is_empty() && text.bytes().all(|byte| byte.is_ascii_digit())).then(|| text.bytes().fold(0, add))
+}
+
+/// The settings that the arguments behind the set file say.
+fn settings(arguments: &[OsString]) -> Result<Settings, &'static str> {
+    match arguments {
+        [] => Ok(Settings::OFF),
+        [share, window] => {
+            let share = number(share).ok_or("SHARE isn't a number: 1 to 255")?;
+            let window = number(window).ok_or("WINDOW isn't a number: 1 to 255")?;
+            Ok(Settings::new(share, window))
+        }
+        _ => Err(USAGE),
+    }
+}
 
 /// What the set and its plan have, in numbers, and how much of the grid is unsafe.
 fn described(analysed: &Analysed) -> String {
@@ -20,23 +44,24 @@ fn described(analysed: &Analysed) -> String {
 }
 
 /// One bid of every task, each told; whether all of them were finished already.
-fn all_finished(service: &mut Service, round: usize, told: &mut String) -> Result<bool, Refused> {
+fn all_finished(service: &mut Service, settings: Settings, round: usize, told: &mut String) -> Result<bool, Refused> {
     let mut all = true;
     for task in 0..service.analysed().set().tasks() {
-        let answer = service.bid(task)?;
+        let answer = service.bid(task, settings)?;
         *told += &format!("round {round}, task {task}: {answer}\n");
         all &= answer == BidAnswer::Finished;
     }
     Ok(all)
 }
 
-fn serve(bytes: &[u8], told: &mut String) -> Result<(), Refused> {
+fn serve(bytes: &[u8], settings: Settings, told: &mut String) -> Result<(), Refused> {
     let analysed = Analysed::new(words_of(bytes)?)?;
     *told += &described(&analysed);
+    *told += &format!("share: {}, window: {}\n", settings.share, settings.window);
 
     let mut service = Service::start(analysed);
     let mut round = 1;
-    while !all_finished(&mut service, round, told)? {
+    while !all_finished(&mut service, settings, round, told)? {
         round += 1;
     }
     *told += &format!("grants: {}\n", service.record().grants());
@@ -56,16 +81,20 @@ fn stop(why: &str) -> ExitCode {
 }
 
 fn main() -> ExitCode {
-    let arguments: Vec<_> = std::env::args_os().collect();
-    let [_, path] = &arguments[..] else {
-        return stop("usage: serve SETFILE");
+    let arguments: Vec<OsString> = std::env::args_os().skip(1).collect();
+    let [path, rest @ ..] = &arguments[..] else {
+        return stop(USAGE);
+    };
+    let settings = match settings(rest) {
+        Ok(settings) => settings,
+        Err(why) => return stop(why),
     };
     let bytes = match std::fs::read(path) {
         Ok(bytes) => bytes,
         Err(why) => return stop(&format!("can't read the set file: {why}")),
     };
     let mut told = String::new();
-    let status = match serve(&bytes, &mut told) {
+    let status = match serve(&bytes, settings, &mut told) {
         Ok(()) => ExitCode::SUCCESS,
         Err(refused) => {
             told += &format!("{refused}\n");

@@ -54,6 +54,9 @@ pub enum BidAnswer {
         /// The rank of the unsafe state that it would lead to. [`Set::state_of_rank`](crate::Set::state_of_rank) has its positions.
         rank: usize,
     },
+    /// The task waits and asks again later: it has had its share of the window, and another task that has share left would be granted now. So another is to go
+    /// first; asked with the same share, the answer stays until one is granted something.
+    ShareSpent,
 }
 
 impl BidAnswer {
@@ -64,6 +67,7 @@ impl BidAnswer {
             BidAnswer::Finished => "finished",
             BidAnswer::Busy { .. } => "busy",
             BidAnswer::Held { .. } => "held",
+            BidAnswer::ShareSpent => "share spent",
         }
     }
 }
@@ -74,6 +78,7 @@ impl fmt::Display for BidAnswer {
             BidAnswer::Granted | BidAnswer::Finished => to.write_str(self.text()),
             BidAnswer::Busy { device } => write!(to, "waits for device {device}"),
             BidAnswer::Held { rank } => write!(to, "held back from unsafe state {rank}"),
+            BidAnswer::ShareSpent => to.write_str("waits, since its share is spent"),
         }
     }
 }

@@ -2,11 +2,12 @@
 //!
 //! A set is a list of 32-bit words that says which devices there are and in which order each task claims and releases them
 //! (`docs/AUTHORS.md`). [`Analysed`] is a set with its map, a byte for each state of progress, and its plan, a list of boxes. [`Service`] is
-//! asked for a bid before every step of a task and says whether it may be made now. `docs/HOSTS.md` tells the whole life of a set.
+//! asked for a bid before every step of a task and says whether it may be made now. [`Settings`] say how large a share of the grants a task may have while
+//! others could go on. `docs/HOSTS.md` tells the whole life of a set.
 //!
 //! ```
 //! # #[cfg(feature = "alloc")] {
-//! use arbiter::{Action, Analysed, BidAnswer, Service};
+//! use arbiter::{Action, Analysed, BidAnswer, Service, Settings};
 //!
 //! // Two tasks that take two devices in opposite order.
 //! let set = [
@@ -14,10 +15,18 @@
 //!     0x40000000, 0x40000001, 0x5000000C,
 //! ];
 //! let mut service = Service::start(Analysed::new(set)?);
+//! // Of every two grants each task has one, as far as both can go on.
+//! let settings = Settings::new(1, 2);
 //!
-//! assert_eq!(service.bid(0)?, BidAnswer::Granted);
+//! assert_eq!(service.bid(0, settings)?, BidAnswer::Granted);
 //! assert_eq!(service.state().last_action(0), Some(Action::Claim { device: 0 }));
-//! assert_eq!(service.bid(1)?, BidAnswer::Held { rank: 6 });
+//! assert_eq!(service.bid(1, settings)?, BidAnswer::Held { rank: 6 });
+//! // Its share is spent, but nobody else can go on. With this grant the window is over.
+//! assert_eq!(service.bid(0, settings)?, BidAnswer::Granted);
+//! assert_eq!(service.bid(1, settings)?, BidAnswer::Busy { device: 1 });
+//! assert_eq!(service.bid(0, settings)?, BidAnswer::Granted);
+//! // Now task 1 could go on, and has its share left.
+//! assert_eq!(service.bid(0, settings)?, BidAnswer::ShareSpent);
 //! # }
 //! # Ok::<(), arbiter::Refused>(())
 //! ```
@@ -66,6 +75,7 @@ mod record;
 #[cfg(feature = "alloc")]
 mod service;
 mod set;
+mod settings;
 mod state;
 mod version;
 mod words;
@@ -77,10 +87,11 @@ pub use answers::{BidAnswer, Location, NoSuchRefusal, PerThousand, Planned, Refu
 pub use cleaning::cleaned;
 pub use cleaning::is_claimed;
 pub use plan::{BoxKind, Plan, PlanBox};
-pub use record::{Positions, Record};
+pub use record::{Counts, Positions, Record};
 #[cfg(feature = "alloc")]
 pub use service::Service;
 pub use set::{Action, Set};
+pub use settings::Settings;
 pub use state::State;
 #[cfg(feature = "alloc")]
 pub use words::words_of;
@@ -124,7 +135,7 @@ pub enum Refusal {
     PlanTooShort = sys::PLAN_TOO_SHORT,
     /// The number of bytes isn't a multiple of 4; the place is the number of whole words. Only [`words_of`] answers it.
     BytesNotWords = sys::BYTES_NOT_WORDS,
-    /// The record isn't one that a service of this set and map leaves; the place is 0.
+    /// The record isn't one that a service of this set and map leaves; in a bid also if its counts together aren't less than the window. The place is 0.
     BadRecord = sys::BAD_RECORD,
     /// The set has no such task; the place is the number that was asked for.
     NoSuchTask = sys::NO_SUCH_TASK,
@@ -144,11 +155,13 @@ pub enum Refusal {
     UnclaimedDevice = sys::UNCLAIMED_DEVICE,
     /// The slice is shorter than the cleaned set, whose length is the place.
     CleanTooShort = sys::CLEAN_TOO_SHORT,
+    /// A bid's share or window isn't 1 to 255; the place is 0.
+    BadSetting = sys::BAD_SETTING,
 }
 
 impl Refusal {
     /// All refusals by rising number, from 1.
-    pub const ALL: [Refusal; 25] = [
+    pub const ALL: [Refusal; 26] = [
         Refusal::NoWords,
         Refusal::TooManyWords,
         Refusal::WordAfterEnd,
@@ -174,6 +187,7 @@ impl Refusal {
         Refusal::OutsideLayout,
         Refusal::UnclaimedDevice,
         Refusal::CleanTooShort,
+        Refusal::BadSetting,
     ];
 
     /// The refusal's number in `docs/SCOPE.md`, "Refusals"; `TryFrom<u8>` goes the other way.
@@ -201,7 +215,9 @@ impl Refusal {
             Refusal::MapTooShort => "the map slice is shorter than the set's number of states",
             Refusal::PlanTooShort => "the plan has more words than its slice",
             Refusal::BytesNotWords => "the number of bytes isn't a multiple of 4: the file was cut, or isn't a set",
-            Refusal::BadRecord => "the record doesn't fit the set and its map: it was damaged, or is another set's, or no analysis wrote the map",
+            Refusal::BadRecord => {
+                "the record doesn't fit the set and its map: it was damaged, or is another set's, or no analysis wrote the map; or its counts reach the window"
+            }
             Refusal::NoSuchTask => "the set has no task of this number",
             Refusal::BadMapByte => "the map isn't the one made for this set: it was damaged, or is another set's",
             Refusal::NotAtEnd => "not every task is finished",
@@ -213,6 +229,7 @@ impl Refusal {
                 "no task claims this device: mend the claim that should name it, or let 'clean < OLDFILE > NEWFILE' take such devices out"
             }
             Refusal::CleanTooShort => "the cleaned set has more words than its slice",
+            Refusal::BadSetting => "the share or the window that came with the bid is outside 1 to 255",
         }
     }
 }

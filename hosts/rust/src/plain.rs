@@ -9,10 +9,10 @@
 //! - **the record is as the last call left it**, and the only one for the set's devices.
 //!
 //! [`Analysed`](crate::Analysed) and [`Service`](crate::Service) see to all three; they are this module's calls with the slices in one hand.
-//! [`locate`] and [`clean`] take none of these, and trust nothing.
+//! [`locate`] and [`clean`] take none of these, and trust nothing. Of [`Settings`], which come with each [`bid`], none does harm: what isn't allowed is refused.
 //!
 //! ```
-//! use arbiter::{plain, BidAnswer, Location, PerThousand, Record};
+//! use arbiter::{plain, BidAnswer, Location, PerThousand, Record, Settings};
 //!
 //! # let set = [
 //! #     0x10000001, 0x10000001, 0x20000000, 0x30000000, 0x30000001, 0x40000001, 0x40000000, 0x20000000, 0x30000001, 0x30000000,
@@ -27,8 +27,8 @@
 //! assert_eq!(planned.per_thousand, PerThousand { quotient: 50, remainder: 0 });
 //!
 //! let mut record = Record::fresh();
-//! assert_eq!(plain::bid(&mut record, &set, &map, 0)?, BidAnswer::Granted);
-//! assert_eq!(plain::bid(&mut record, &set, &map, 1)?, BidAnswer::Held { rank: 6 });
+//! assert_eq!(plain::bid(&mut record, &set, &map, 0, Settings::OFF)?, BidAnswer::Granted);
+//! assert_eq!(plain::bid(&mut record, &set, &map, 1, Settings::OFF)?, BidAnswer::Held { rank: 6 });
 //!
 //! // The state from which that bid was held back, asked of the plan alone.
 //! assert_eq!(plain::locate([1, 1, 0, 0, 0, 0, 0, 0], plan, 2)?, Location::Unsafe { index: 6 });
@@ -36,7 +36,7 @@
 //! ```
 
 use crate::answers::{refused, value_of};
-use crate::{sys, version, BidAnswer, Location, PerThousand, Planned, Positions, Record, Refused};
+use crate::{sys, version, BidAnswer, Location, PerThousand, Planned, Positions, Record, Refused, Settings};
 
 /// What a map slice is filled with before the analysis: no byte of a map, so that one that no analysis wrote is refused and grants nothing.
 pub const NOT_ANALYSED: u8 = 0xFF;
@@ -90,25 +90,27 @@ pub fn analyse(set: &[u32], map: &mut [u8], plan: &mut [u32]) -> Result<Planned,
 ///
 /// # Errors
 ///
-/// Refusals 1 to 13, 16, 17, 18 and 24.
+/// Refusals 1 to 13, 16, 17, 18, 24 and 26. 16 comes also if the record's counts together, [`Record::window_grants`], aren't less than the window.
 ///
 /// # Panics
 ///
 /// If the linked library isn't the one that belongs to this crate.
-pub fn bid(record: &mut Record, set: &[u32], map: &[u8], task: usize) -> Result<BidAnswer, Refused> {
+pub fn bid(record: &mut Record, set: &[u32], map: &[u8], task: usize, settings: Settings) -> Result<BidAnswer, Refused> {
     version::check();
+    let Settings { share, window } = settings;
     // SAFETY: as in `analyse`.
-    let answer = unsafe { sys::arbiter_bid(&mut record.0, set.as_ptr(), set.len(), map.as_ptr(), map.len(), task) };
+    let answer = unsafe { sys::arbiter_bid(&mut record.0, set.as_ptr(), set.len(), map.as_ptr(), map.len(), task, share, window) };
     match answer.kind {
         sys::GRANTED => Ok(BidAnswer::Granted),
         sys::FINISHED => Ok(BidAnswer::Finished),
         sys::BUSY => Ok(BidAnswer::Busy { device: value_of(answer) }),
         sys::HELD => Ok(BidAnswer::Held { rank: value_of(answer) }),
+        sys::SHARE_SPENT => Ok(BidAnswer::ShareSpent),
         _ => Err(refused("arbiter_bid", answer)),
     }
 }
 
-/// Starts every task anew once all are finished; the grant number stays.
+/// Starts every task anew once all are finished; the grant number stays, and the counts become 0.
 ///
 /// # Errors
 ///
@@ -129,7 +131,8 @@ pub fn again(record: &mut Record, set: &[u32]) -> Result<(), Refused> {
 
 /// Writes the steps from the record's state to the end, one byte a step, always the lowest task that can go on, and answers their number.
 ///
-/// A slice as long as the set is always long enough. The bytes beyond the route keep what they had.
+/// A slice as long as the set is always long enough. The bytes beyond the route keep what they had. A route looks at no shares: a bid on the way that it shows may
+/// still be answered [`BidAnswer::ShareSpent`].
 ///
 /// # Errors
 ///

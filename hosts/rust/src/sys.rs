@@ -5,12 +5,13 @@
 
 use core::mem::{offset_of, size_of};
 
-/// A task's position for each of the eight tasks, 0 for absent ones, and the grant number.
+/// A position for each of the eight tasks, the grant number, and for each task its grants in the present window; 0 for absent tasks.
 #[repr(C)]
 #[derive(Clone, Copy, Debug, PartialEq, Eq)]
 pub struct Record {
     pub positions: [u8; MAX_TASKS],
     pub grants: u32,
+    pub counts: [u8; MAX_TASKS],
 }
 
 /// A position for each of the eight tasks, to question a stored plan with; those past the task count are unread.
@@ -50,9 +51,10 @@ const _: () = assert!(size_of::<Analysis>() == 24);
 const _: () = assert!(offset_of!(Analysis, answer) == 0);
 const _: () = assert!(offset_of!(Analysis, quotient) == 16);
 const _: () = assert!(offset_of!(Analysis, remainder) == 20);
-const _: () = assert!(size_of::<Record>() == 12);
+const _: () = assert!(size_of::<Record>() == 20);
 const _: () = assert!(offset_of!(Record, positions) == 0);
 const _: () = assert!(offset_of!(Record, grants) == 8);
+const _: () = assert!(offset_of!(Record, counts) == 12);
 const _: () = assert!(size_of::<State>() == 8);
 const _: () = assert!(offset_of!(State, positions) == 0);
 
@@ -61,7 +63,7 @@ extern "C" {
     pub fn arbiter_read(set: *const u32, set_len: usize) -> Answer;
     pub fn arbiter_analyse(set: *const u32, set_len: usize, map: *mut u8, map_len: usize, plan: *mut u32, plan_len: usize) -> Analysis;
     pub fn arbiter_fresh() -> Record;
-    pub fn arbiter_bid(record: *mut Record, set: *const u32, set_len: usize, map: *const u8, map_len: usize, task: usize) -> Answer;
+    pub fn arbiter_bid(record: *mut Record, set: *const u32, set_len: usize, map: *const u8, map_len: usize, task: usize, share: u32, window: u32) -> Answer;
     pub fn arbiter_again(record: *mut Record, set: *const u32, set_len: usize) -> Answer;
     pub fn arbiter_route(record: Record, set: *const u32, set_len: usize, map: *const u8, map_len: usize, route: *mut u8, route_len: usize) -> Answer;
     pub fn arbiter_locate(state: State, plan: *const u32, plan_len: usize, tasks: usize) -> Answer;
@@ -69,7 +71,7 @@ extern "C" {
 }
 
 // The version that this interface is of, and the library must be: major times 10,000, minor times 100, patch.
-pub const VERSION: u32 = 40000;
+pub const VERSION: u32 = 50000;
 
 // The kinds of an answer. A zeroed answer is a refusal.
 pub const REFUSED: u32 = 0; // value: the refusal's place
@@ -85,6 +87,7 @@ pub const IN_FORBIDDEN_BOX: u32 = 9; // value: the index of the box's first word
 pub const IN_UNSAFE_BOX: u32 = 10; // likewise
 pub const IN_NO_BOX: u32 = 11;
 pub const CLEANED: u32 = 12; // value: the number of words of the cleaned set
+pub const SHARE_SPENT: u32 = 13;
 
 // The limits of a set.
 pub const MAX_WORDS: usize = 4096;
@@ -93,6 +96,9 @@ pub const MAX_CAPACITY: u32 = 8;
 pub const MAX_TASKS: usize = 8;
 pub const MAX_ACTIONS: u8 = 255;
 pub const MAX_GRID: u32 = 65536;
+
+// The largest share and the largest window of a bid; the smallest of each is 1.
+pub const MAX_SETTING: u32 = 255;
 
 // A word is its kind times this, plus its field.
 pub const FIELDS: u32 = 0x1000_0000;
@@ -146,6 +152,7 @@ pub const NOT_AT_END: u8 = 19;
 pub const NO_ROUTE: u8 = 20;
 pub const ROUTE_TOO_SHORT: u8 = 21;
 pub const CLEAN_TOO_SHORT: u8 = 25;
+pub const BAD_SETTING: u8 = 26;
 
 // The refusals of a stored plan.
 pub const BAD_TASK_COUNT: u8 = 22;

@@ -154,7 +154,7 @@ fn the_devices_that_are_kept_are_those_that_are_claimed() {
 #[cfg(feature = "alloc")]
 #[test]
 fn a_service_goes_on_with_the_cleaned_set() {
-    use arbiter::{cleaned, Analysed, BidAnswer, Record, Service};
+    use arbiter::{cleaned, Analysed, BidAnswer, Record, Service, Settings};
     let old = with_unclaimed(&A, 1, 4);
     assert_eq!(Analysed::new(&old[..]), refused(Refusal::UnclaimedDevice, 1));
     assert_eq!(cleaned(&old).as_deref(), Ok(&A[..]));
@@ -162,7 +162,7 @@ fn a_service_goes_on_with_the_cleaned_set() {
 
     // A record that the old set's service left, and the bids of example b from there; what was device 2 is device 1 now.
     let analysed = Analysed::new(cleaned(&old).unwrap()).unwrap();
-    let mut service = Service::resume(analysed, Record::new([1, 0, 0, 0, 0, 0, 0, 0], 1)).unwrap();
-    let answers = [1, 0, 1].map(|task| service.bid(task).unwrap());
+    let mut service = Service::resume(analysed, Record::new([1, 0, 0, 0, 0, 0, 0, 0], 1, [1, 0, 0, 0, 0, 0, 0, 0])).unwrap();
+    let answers = [1, 0, 1].map(|task| service.bid(task, Settings::OFF).unwrap());
     assert_eq!(answers, [BidAnswer::Held { rank: 6 }, BidAnswer::Granted, BidAnswer::Busy { device: 1 }]);
 }

@@ -2,8 +2,8 @@
 
 mod sets;
 
-use arbiter::plain::{again, analyse, bid, read, route, NOT_ANALYSED};
-use arbiter::{sys, BidAnswer, Record, Refusal};
+use arbiter::plain::{self, again, analyse, read, route, NOT_ANALYSED};
+use arbiter::{sys, BidAnswer, Record, Refusal, Refused, Settings};
 use sets::{planned, refused, users_of_one_device, A, PLAN, R, R_PLAN, STATES, STATES_OF_R, U, U_PLAN};
 
 fn map_of_a() -> [u8; STATES] {
@@ -14,7 +14,12 @@ fn map_of_a() -> [u8; STATES] {
 
 /// A record at these positions of the first two tasks.
 fn at(first: u8, second: u8) -> Record {
-    Record::new([first, second, 0, 0, 0, 0, 0, 0], 0)
+    Record::new([first, second, 0, 0, 0, 0, 0, 0], 0, [0; 8])
+}
+
+/// A bid as examples b and l have it, with 255 for share and window.
+fn bid(record: &mut Record, set: &[u32], map: &[u8], task: usize) -> Result<BidAnswer, Refused> {
+    plain::bid(record, set, map, task, Settings::OFF)
 }
 
 #[test]
@@ -68,7 +73,7 @@ fn example_b_answers_six_bids() {
         answers,
         [BidAnswer::Granted, BidAnswer::Held { rank: 6 }, BidAnswer::Granted, BidAnswer::Busy { device: 1 }, BidAnswer::Granted, BidAnswer::Granted]
     );
-    assert_eq!(record, Record::new([3, 1, 0, 0, 0, 0, 0, 0], 4));
+    assert_eq!(record, Record::new([3, 1, 0, 0, 0, 0, 0, 0], 4, [3, 1, 0, 0, 0, 0, 0, 0]));
 }
 
 #[test]
@@ -80,13 +85,13 @@ fn example_c_is_routed_and_the_rest_of_the_slice_stays() {
 
 #[test]
 fn example_l_wraps_the_grant_number() {
-    let mut record = Record::new([0; 8], 0xFFFF_FFFF);
+    let mut record = Record::new([0; 8], 0xFFFF_FFFF, [0; 8]);
     assert_eq!(bid(&mut record, &A, &map_of_a(), 0), Ok(BidAnswer::Granted));
-    assert_eq!(record, Record::new([1, 0, 0, 0, 0, 0, 0, 0], 0));
+    assert_eq!(record, Record::new([1, 0, 0, 0, 0, 0, 0, 0], 0, [1, 0, 0, 0, 0, 0, 0, 0]));
 }
 
 #[test]
-fn rounds_bring_every_task_home_and_again_keeps_the_grants() {
+fn rounds_bring_every_task_home_and_again_keeps_the_grants_and_clears_the_counts() {
     let map = map_of_a();
     let mut record = Record::fresh();
     let mut granted = 0;
@@ -96,10 +101,10 @@ fn rounds_bring_every_task_home_and_again_keeps_the_grants() {
         }
     }
     assert_eq!(granted, 8);
-    assert_eq!(record, Record::new([4, 4, 0, 0, 0, 0, 0, 0], 8));
+    assert_eq!(record, Record::new([4, 4, 0, 0, 0, 0, 0, 0], 8, [4, 4, 0, 0, 0, 0, 0, 0]));
     assert_eq!(bid(&mut record, &A, &map, 0), Ok(BidAnswer::Finished));
     assert_eq!(again(&mut record, &A), Ok(()));
-    assert_eq!(record, Record::new([0; 8], 8));
+    assert_eq!(record, Record::new([0; 8], 8, [0; 8]));
 }
 
 #[test]
@@ -180,10 +185,10 @@ fn damaged_records_and_maps_are_refused() {
 
     // A position over the task's actions, one of an absent task, and a forbidden state.
     for positions in [[5, 0, 0, 0, 0, 0, 0, 0], [0, 0, 0, 0, 0, 0, 0, 1], [2, 2, 0, 0, 0, 0, 0, 0]] {
-        let mut record = Record::new(positions, 7);
+        let mut record = Record::new(positions, 7, [0; 8]);
         assert_eq!(bid(&mut record, &A, &map, 0), refused(Refusal::BadRecord, 0));
         assert_eq!(route(&record, &A, &map, &mut steps), refused(Refusal::BadRecord, 0));
-        assert_eq!(record, Record::new(positions, 7));
+        assert_eq!(record, Record::new(positions, 7, [0; 8]));
     }
     assert_eq!(again(&mut at(5, 0), &A), refused(Refusal::BadRecord, 0));
 

@@ -10,7 +10,7 @@ const STAND_IN: &str = r#"
 #include <stdlib.h>
 typedef struct { uint32_t kind, refusal; uint64_t value; } answer;
 typedef struct { answer told; uint32_t quotient, remainder; } analysis;
-typedef struct { uint8_t positions[8]; uint32_t grants; } record;
+typedef struct { uint8_t positions[8]; uint32_t grants; uint8_t counts[8]; } record;
 static uint32_t number(const char *name) { return (uint32_t)atoi(getenv(name)); }
 static answer any(void) { return (answer){ number("KIND"), number("REFUSAL"), 0 }; }
 uint32_t arbiter_version(void) { return number("VERSION"); }
@@ -21,19 +21,19 @@ answer arbiter_again(void) { return any(); }
 answer arbiter_route(void) { return any(); }
 answer arbiter_locate(void) { return any(); }
 answer arbiter_clean(void) { return any(); }
-record arbiter_fresh(void) { return (record){ { 0 }, 0 }; }
+record arbiter_fresh(void) { return (record){ { 0 }, 0, { 0 } }; }
 "#;
 
 /// Makes one call, which the first argument names.
 const CALLER: &str = r#"
-use arbiter::{plain, Record};
+use arbiter::{plain, Record, Settings};
 fn main() {
     let call = std::env::args().nth(1).unwrap();
-    let mut record = Record::new([0; 8], 0);
+    let mut record = Record::new([0; 8], 0, [0; 8]);
     let answer = match &call[..] {
         "read" => plain::read(&[]).map(|_| ()),
         "analyse" => plain::analyse(&[], &mut [], &mut []).map(|_| ()),
-        "bid" => plain::bid(&mut record, &[], &[], 0).map(|_| ()),
+        "bid" => plain::bid(&mut record, &[], &[], 0, Settings::OFF).map(|_| ()),
         "again" => plain::again(&mut record, &[]),
         "route" => plain::route(&record, &[], &[], &mut []).map(|_| ()),
         "locate" => plain::locate([0; 8], &[], 1).map(|_| ()),

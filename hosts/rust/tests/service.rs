@@ -2,7 +2,7 @@
 
 mod sets;
 
-use arbiter::{plain, sys, words_of, Action, Analysed, BidAnswer, BoxKind, PerThousand, Record, Refusal, Service};
+use arbiter::{plain, sys, words_of, Action, Analysed, BidAnswer, BoxKind, PerThousand, Record, Refusal, Service, Settings};
 use sets::{planned, refused, users_of_one_device, A, D, E, PLAN, STATES};
 
 fn in_service(set: &[u32]) -> Service {
@@ -53,24 +53,25 @@ fn faulty_sets_are_not_analysed() {
 #[test]
 fn a_service_answers_example_b_and_tells_its_state() {
     let mut service = in_service(&A);
-    assert_eq!(service.bid(0), Ok(BidAnswer::Granted));
+    let off = Settings::OFF;
+    assert_eq!(service.bid(0, off), Ok(BidAnswer::Granted));
     assert_eq!(service.state().last_action(0), Some(Action::Claim { device: 0 }));
-    assert_eq!(service.bid(1), Ok(BidAnswer::Held { rank: 6 }));
+    assert_eq!(service.bid(1, off), Ok(BidAnswer::Held { rank: 6 }));
     let state = service.analysed().set().state_of_rank(6).unwrap();
     assert_eq!(state.positions(), [1, 1, 0, 0, 0, 0, 0, 0]);
-    assert_eq!(service.bid(0), Ok(BidAnswer::Granted));
-    assert_eq!(service.bid(1), Ok(BidAnswer::Busy { device: 1 }));
+    assert_eq!(service.bid(0, off), Ok(BidAnswer::Granted));
+    assert_eq!(service.bid(1, off), Ok(BidAnswer::Busy { device: 1 }));
     assert_eq!(service.state().holders(1).collect::<Vec<_>>(), [0]);
-    assert_eq!((service.bid(0), service.bid(1)), (Ok(BidAnswer::Granted), Ok(BidAnswer::Granted)));
+    assert_eq!((service.bid(0, off), service.bid(1, off)), (Ok(BidAnswer::Granted), Ok(BidAnswer::Granted)));
     assert_eq!(service.state().holders(1).collect::<Vec<_>>(), [1]);
-    assert_eq!(service.record(), &Record::new([3, 1, 0, 0, 0, 0, 0, 0], 4));
+    assert_eq!(service.record(), &Record::new([3, 1, 0, 0, 0, 0, 0, 0], 4, [3, 1, 0, 0, 0, 0, 0, 0]));
     assert_eq!(service.state().set(), service.analysed().set());
 }
 
 #[test]
 fn a_service_refuses_tasks_that_are_not_there_and_an_early_again() {
     let mut service = in_service(&A);
-    assert_eq!(service.bid(2), refused(Refusal::NoSuchTask, 2));
+    assert_eq!(service.bid(2, Settings::OFF), refused(Refusal::NoSuchTask, 2));
     assert_eq!(service.again(), refused(Refusal::NotAtEnd, 0));
     assert_eq!(service.record(), &Record::fresh());
 }
@@ -82,43 +83,51 @@ fn a_service_follows_its_route_and_starts_again() {
     assert_eq!(route.len(), 12);
     for task in route {
         let next = service.state().next_action(task.into());
-        assert_eq!(service.bid(task.into()), Ok(BidAnswer::Granted));
+        assert_eq!(service.bid(task.into(), Settings::OFF), Ok(BidAnswer::Granted));
         assert_eq!(service.state().last_action(task.into()), next);
     }
-    assert_eq!((service.bid(0), service.bid(1)), (Ok(BidAnswer::Finished), Ok(BidAnswer::Finished)));
+    assert_eq!([0, 1].map(|task| service.bid(task, Settings::OFF)), [Ok(BidAnswer::Finished); 2]);
     assert_eq!(service.route(), Ok(vec![]));
     assert_eq!(service.again(), Ok(()));
-    assert_eq!(service.record(), &Record::new([0; 8], 12));
+    assert_eq!(service.record(), &Record::new([0; 8], 12, [0; 8]));
 }
 
 #[test]
 fn a_service_goes_on_from_a_stored_record_and_from_no_other() {
-    let resumed = |positions| Service::resume(Analysed::new(A).unwrap(), Record::new(positions, 7)).map(|service| service.record().clone());
-    let open = [3, 1, 0, 0, 0, 0, 0, 0];
-    assert_eq!(resumed(open), Ok(Record::new(open, 7)));
-    assert_eq!(resumed([4, 4, 0, 0, 0, 0, 0, 0]), Ok(Record::new([4, 4, 0, 0, 0, 0, 0, 0], 7)));
+    let resumed = |positions, counts| Service::resume(Analysed::new(A).unwrap(), Record::new(positions, 7, counts)).map(|service| service.record().clone());
+    let (open, counts) = ([3, 1, 0, 0, 0, 0, 0, 0], [255, 2, 0, 0, 0, 0, 0, 0]);
+    assert_eq!(resumed(open, counts), Ok(Record::new(open, 7, counts)));
+    assert_eq!(resumed([4, 4, 0, 0, 0, 0, 0, 0], [0; 8]), Ok(Record::new([4, 4, 0, 0, 0, 0, 0, 0], 7, [0; 8])));
     // A position over the task's actions, one of an absent task, a forbidden state and a dead one.
     for positions in [[5, 0, 0, 0, 0, 0, 0, 0], [0, 0, 0, 0, 0, 0, 0, 1], [2, 2, 0, 0, 0, 0, 0, 0]] {
-        assert_eq!(resumed(positions), refused(Refusal::BadRecord, 0));
+        assert_eq!(resumed(positions, [0; 8]), refused(Refusal::BadRecord, 0));
     }
-    assert_eq!(resumed([1, 1, 0, 0, 0, 0, 0, 0]), refused(Refusal::NoRoute, 6));
+    assert_eq!(resumed([1, 1, 0, 0, 0, 0, 0, 0], [0; 8]), refused(Refusal::NoRoute, 6));
+    // A count of an absent task.
+    for task in 2..8 {
+        assert_eq!(resumed(open, std::array::from_fn(|other| u8::from(other == task))), refused(Refusal::BadRecord, 0));
+    }
 
+    let settings = Settings::new(1, 2);
     let stored = {
         let mut service = in_service(&A);
-        assert_eq!(service.bid(1), Ok(BidAnswer::Granted));
+        assert_eq!(service.bid(1, settings), Ok(BidAnswer::Granted));
         service.record().to_bytes()
     };
     let mut service = Service::resume(Analysed::new(A).unwrap(), Record::from_bytes(stored)).unwrap();
-    // Example c, and the second bid of example b the other way round.
+    // Example c, and the second bid of example b the other way round; the counts go on from the stored ones, and here close their window.
     assert_eq!(service.route(), Ok(vec![1, 1, 0, 1, 0, 0, 0]));
-    assert_eq!(service.bid(0), Ok(BidAnswer::Held { rank: 6 }));
+    assert_eq!(service.bid(0, settings), Ok(BidAnswer::Held { rank: 6 }));
+    assert_eq!(service.record().counts(), [0, 1, 0, 0, 0, 0, 0, 0]);
+    assert_eq!(service.bid(1, settings), Ok(BidAnswer::Granted));
+    assert_eq!(service.record(), &Record::new([0, 2, 0, 0, 0, 0, 0, 0], 2, [0; 8]));
 }
 
 #[test]
 fn a_service_is_resumed_from_exactly_the_open_states() {
     let analysed = Analysed::new(D).unwrap();
     for (rank, &byte) in analysed.map().iter().enumerate() {
-        let record = Record::new(analysed.set().state_of_rank(rank).unwrap().positions(), 0);
+        let record = Record::new(analysed.set().state_of_rank(rank).unwrap().positions(), 0, [0; 8]);
         assert_eq!(Service::resume(analysed.clone(), record).is_ok(), byte == sys::OPEN, "rank {rank}");
     }
 }

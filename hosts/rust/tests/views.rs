@@ -2,7 +2,7 @@
 
 mod sets;
 
-use arbiter::{plain, sys, Action, BidAnswer, BoxKind, Location, NoSuchRefusal, PerThousand, Plan, Positions, Record, Refusal, Refused, Set, State};
+use arbiter::{plain, sys, Action, BidAnswer, BoxKind, Location, NoSuchRefusal, PerThousand, Plan, Positions, Record, Refusal, Refused, Set, Settings, State};
 use sets::{refused, A, D, E, PLAN, R, R_PLAN, STATES, STATES_OF_R, U, U_PLAN};
 use std::ops::RangeInclusive;
 
@@ -183,22 +183,36 @@ fn the_boxes_of_d_cover_its_map() {
 
 #[test]
 fn records_are_stored_positions_first_and_lowest_byte_first() {
-    let record = Record::new([1, 2, 3, 4, 5, 6, 7, 8], 0x0D0C_0B0A);
-    let bytes = [1, 2, 3, 4, 5, 6, 7, 8, 0x0A, 0x0B, 0x0C, 0x0D];
+    let record = Record::new([1, 2, 3, 4, 5, 6, 7, 8], 0x0D0C_0B0A, [11, 12, 13, 14, 15, 16, 17, 255]);
+    let bytes = [1, 2, 3, 4, 5, 6, 7, 8, 0x0A, 0x0B, 0x0C, 0x0D, 11, 12, 13, 14, 15, 16, 17, 255];
     assert_eq!(record.to_bytes(), bytes);
     assert_eq!(Record::from_bytes(bytes), record);
-    assert_eq!(Record::default(), Record::new([0; 8], 0));
+    assert_eq!((record.positions(), record.grants(), record.counts()), ([1, 2, 3, 4, 5, 6, 7, 8], 0x0D0C_0B0A, [11, 12, 13, 14, 15, 16, 17, 255]));
+    assert_eq!(Record::default(), Record::new([0; 8], 0, [0; 8]));
     assert_eq!(Record::fresh(), Record::default());
+}
+
+#[test]
+fn the_grants_of_a_window_are_the_counts_added_up() {
+    for (counts, grants) in [([0; 8], 0), ([1, 2, 0, 0, 0, 0, 0, 4], 7), ([255; 8], 2040)] {
+        assert_eq!(Record::new([9; 8], 5, counts).window_grants(), grants);
+    }
+}
+
+#[test]
+fn settings_are_kept_as_they_are_given() {
+    assert_eq!(Settings::new(256, u32::MAX), Settings { share: 256, window: u32::MAX });
+    assert_eq!(Settings::OFF, Settings { share: 255, window: 255 });
 }
 
 #[test]
 fn refusals_have_numbers_both_ways() {
     let numbers: Vec<u8> = Refusal::ALL.iter().map(|refusal| refusal.number()).collect();
-    assert_eq!(numbers, (1..=25).collect::<Vec<u8>>());
+    assert_eq!(numbers, (1..=26).collect::<Vec<u8>>());
     for refusal in Refusal::ALL {
         assert_eq!(Refusal::try_from(refusal.number()), Ok(refusal));
     }
-    for number in [0, 26, 255] {
+    for number in [0, 27, 255] {
         assert_eq!(Refusal::try_from(number), Err(NoSuchRefusal(number)));
     }
 }
@@ -207,10 +221,11 @@ fn refusals_have_numbers_both_ways() {
 fn everything_prints_for_a_log() {
     let refused = Refused { refusal: Refusal::ClaimOfHeld, place: 3 };
     assert_eq!(refused.to_string(), "refused 8 at 3: the task claims a device that it holds already");
-    assert_eq!(NoSuchRefusal(26).to_string(), "no refusal has the number 26");
-    let answers = [BidAnswer::Granted, BidAnswer::Finished, BidAnswer::Busy { device: 1 }, BidAnswer::Held { rank: 6 }];
-    assert_eq!(answers.map(|answer| answer.to_string()), ["granted", "finished", "waits for device 1", "held back from unsafe state 6"]);
-    assert_eq!(answers.map(BidAnswer::text), ["granted", "finished", "busy", "held"]);
+    assert_eq!(NoSuchRefusal(27).to_string(), "no refusal has the number 27");
+    let answers = [BidAnswer::Granted, BidAnswer::Finished, BidAnswer::Busy { device: 1 }, BidAnswer::Held { rank: 6 }, BidAnswer::ShareSpent];
+    let told = ["granted", "finished", "waits for device 1", "held back from unsafe state 6", "waits, since its share is spent"];
+    assert_eq!(answers.map(|answer| answer.to_string()), told);
+    assert_eq!(answers.map(BidAnswer::text), ["granted", "finished", "busy", "held", "share spent"]);
     let locations = [Location::Forbidden { index: 3 }, Location::Unsafe { index: 6 }, Location::Neither];
     assert_eq!(locations.map(|location| location.to_string()), ["in forbidden box at 3", "in unsafe box at 6", "in no box"]);
     assert_eq!(locations.map(Location::text), ["in forbidden box", "in unsafe box", "in no box"]);
@@ -222,6 +237,6 @@ fn everything_prints_for_a_log() {
 #[cfg(feature = "std")]
 #[test]
 fn what_is_refused_is_an_error() {
-    let errors: [Box<dyn std::error::Error>; 2] = [Box::new(Set::read(&[]).unwrap_err()), Box::new(NoSuchRefusal(26))];
-    assert_eq!(errors.map(|error| error.to_string()), ["refused 1 at 0: the set is empty", "no refusal has the number 26"]);
+    let errors: [Box<dyn std::error::Error>; 2] = [Box::new(Set::read(&[]).unwrap_err()), Box::new(NoSuchRefusal(27))];
+    assert_eq!(errors.map(|error| error.to_string()), ["refused 1 at 0: the set is empty", "no refusal has the number 27"]);
 }

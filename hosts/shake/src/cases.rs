@@ -1,7 +1,7 @@
 //! Makers of inputs: lists of words, good and bad, and what is lent beside them: maps, records, task numbers and the lengths of slices.
 
 use crate::random::Random;
-use crate::reference::{Record, Set, TASKS};
+use crate::reference::{Record, Set, Settings, State, TASKS};
 
 fn device(capacity: usize) -> u32 {
     0x1000_0000 | capacity as u32
@@ -44,6 +44,13 @@ fn set_of(capacities: &[usize], tasks: &[Vec<u32>]) -> Vec<u32> {
 
 pub fn example_a() -> Vec<u32> {
     words_of(&[1, 1], &[vec![claim(0), claim(1), release(1), release(0)], vec![claim(1), claim(0), release(0), release(1)]])
+}
+
+/// Two tasks that cross 40 times: one turn has 320 grants, more than any window.
+pub fn many_crossings() -> Vec<u32> {
+    let there = [claim(0), claim(1), release(1), release(0)].repeat(40);
+    let back = [claim(1), claim(0), release(0), release(1)].repeat(40);
+    words_of(&[1, 1], &[there, back])
 }
 
 /// How many kinds of refused lists `faulty` is asked for: the refusals 1 to 12.
@@ -750,8 +757,74 @@ fn grants(random: &mut Random) -> u32 {
     }
 }
 
-/// A record for a set: at a state of any kind, mostly an open one, or one that no state of the set has.
-pub fn record(random: &mut Random, set: &Set, map: &[u8]) -> Record {
+/// Settings that a bid may bring: mostly small ones, whose shares are soon spent.
+pub fn allowed_settings(random: &mut Random) -> Settings {
+    match random.below(8) {
+        0 => Settings { share: random.between(1, 255) as u32, window: random.between(1, 255) as u32 },
+        1 => Settings { share: random.pick(&[1, 2, 254, 255]), window: random.pick(&[1, 2, 254, 255]) },
+        2 => Settings { share: random.between(1, 4) as u32, window: random.between(10, 255) as u32 },
+        _ => Settings { share: random.pick(&[1, 1, 1, 2, 2, 3, 4, 5]), window: random.between(1, 12) as u32 },
+    }
+}
+
+/// One that no bid may bring; some look like one that is allowed when cut to 8 or 16 bits, or taken for a signed number.
+fn wrong_setting(random: &mut Random) -> u32 {
+    let small = random.between(1, 9) as u32;
+    random.pick(&[
+        0,
+        0,
+        256,
+        256,
+        256 + small,
+        511,
+        512,
+        1 << 16,
+        (1 << 16) + 1,
+        (1 << 16) + small,
+        (1 << 24) + small,
+        1 << 31,
+        (1 << 31) + small,
+        u32::MAX,
+        u32::MAX - small,
+    ])
+}
+
+/// Any settings: one in six has a share, a window or both that aren't allowed.
+pub fn settings(random: &mut Random) -> Settings {
+    let mut settings = allowed_settings(random);
+    match random.below(18) {
+        0 => settings.share = wrong_setting(random),
+        1 => settings.window = wrong_setting(random),
+        2 => settings = Settings { share: wrong_setting(random), window: wrong_setting(random) },
+        _ => {}
+    }
+    settings
+}
+
+/// Counts for a set of so many tasks: none; near the share; adding up to one less than the window, to the window or to more; of an absent task; or any.
+fn counts(random: &mut Random, tasks: usize, settings: Settings) -> [u8; TASKS] {
+    let mut counts = [0u8; TASKS];
+    let near_share =
+        |random: &mut Random| random.pick(&[0, 0, settings.share.saturating_sub(1), settings.share, settings.share.saturating_add(1)]).min(255) as u8;
+    match random.below(12) {
+        0 | 1 => {}
+        2..=5 => counts[..tasks].fill_with(|| near_share(random)),
+        6..=9 => {
+            let window = settings.window.min(255) as usize;
+            let (below, any) = (window.saturating_sub(1), random.below(window + 1));
+            for _ in 0..random.pick(&[below, below, window, window + 1, any]) {
+                let count = &mut counts[random.below(tasks)];
+                *count = count.saturating_add(1);
+            }
+        }
+        10 if tasks < TASKS => counts[random.between(tasks, TASKS - 1)] = random.pick(&[1, 1, 2, 255]),
+        _ => counts = random.next().to_le_bytes(),
+    }
+    counts
+}
+
+/// A record for a set and a bid with these settings: at a state of any kind, mostly an open one, or one that no state of the set has.
+pub fn record(random: &mut Random, set: &Set, map: &[u8], settings: Settings) -> Record {
     let tasks = set.tasks.len();
     let mut positions = [0u8; TASKS];
     let tries = if random.one_in(3) { 1 } else { 10 };
@@ -779,7 +852,31 @@ pub fn record(random: &mut Random, set: &Set, map: &[u8]) -> Record {
         3 => positions[random.below(TASKS)] = random.next() as u8,
         _ => {}
     }
-    Record { positions, grants: grants(random) }
+    Record { positions, grants: grants(random), counts: counts(random, tasks, settings) }
+}
+
+/// Map, record, task and settings of a bid that may well be answered Share spent: the record's state is open, the task's next state mostly is, those of the other
+/// tasks have any bytes, and the counts of all are near the share. None if every task is finished there.
+pub fn shared_bid(random: &mut Random, set: &Set, own: &[u8]) -> Option<(Vec<u8>, Record, usize, Settings)> {
+    const BYTES: [u8; 8] = [0, 0, 1, 2, 3, 4, 128, 255];
+    let share = random.between(1, 5) as u32;
+    let mut record = Record::FRESH;
+    for task in 0..set.tasks.len() {
+        record.positions[task] = random.between(0, set.length(task)) as u8;
+        record.counts[task] = random.pick(&[0, share - 1, share, share + 1]) as u8;
+    }
+    let nexts: Vec<(usize, State)> = (0..set.tasks.len()).filter_map(|task| Some((task, set.next(&record.positions, task)?))).collect();
+    if nexts.is_empty() {
+        return None;
+    }
+    let (task, _) = random.pick(&nexts);
+    let mut map = own.to_vec();
+    map[set.rank(&record.positions)] = 0;
+    for (other, next) in nexts {
+        map[set.rank(&next)] = if other == task && !random.one_in(4) { 0 } else { random.pick(&BYTES) };
+    }
+    let window = random.pick(&[record.window_grants() + 1, record.window_grants() + 2, 255]);
+    Some((map, record, task, Settings { share, window }))
 }
 
 /// A record that knows nothing of the set.
@@ -788,7 +885,8 @@ pub fn any_record(random: &mut Random) -> Record {
     if random.one_in(2) {
         positions = random.next().to_le_bytes();
     }
-    Record { positions, grants: grants(random) }
+    let counts = if random.one_in(2) { random.next().to_le_bytes() } else { [0; TASKS] };
+    Record { positions, grants: grants(random), counts }
 }
 
 /// A task's number: mostly one of the set's, else one that is none, some of which look like one when cut to 32 or 8 bits.
@@ -800,7 +898,17 @@ pub fn task(random: &mut Random, tasks: usize) -> usize {
     random.pick(&[tasks as u64, 7, 8, 255, 256 + small, 1 << 16, 1 << 32, (1 << 32) + small, 1 << 63, (1 << 63) + small, u64::MAX, u64::MAX - small]) as usize
 }
 
-/// The same, and mostly one that has actions left.
+/// A round: every task, in any order, some of them twice, and now and then a number that no task has.
+pub fn round(random: &mut Random, tasks: usize) -> Vec<usize> {
+    let mut round: Vec<usize> = (0..tasks).collect();
+    for _ in 0..random.pick(&[0, 0, 0, 1, 2]) {
+        round.push(task(random, tasks));
+    }
+    random.shuffle(&mut round);
+    round
+}
+
+/// A task's number as above, and mostly one that has actions left.
 pub fn unfinished_task(random: &mut Random, set: &Set, record: &Record) -> usize {
     let left: Vec<usize> = (0..set.tasks.len()).filter(|&task| (record.positions[task] as usize) < set.length(task)).collect();
     if left.is_empty() || random.one_in(4) {

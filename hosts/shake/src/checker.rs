@@ -5,7 +5,8 @@ use crate::fenced::Fenced;
 use crate::per_thousand::{self, Parts};
 use crate::questions::Asked;
 use crate::random::Random;
-use crate::reference::{Analysis, Answer, Record, State, Worked};
+use crate::reference::{Analysis, Answer, Record, Settings, State, Worked};
+use crate::shares::{self, Shares};
 use crate::stored_plan;
 use arbiter::sys;
 use std::fmt::Debug;
@@ -26,8 +27,8 @@ pub enum Call {
 /// How often each call gave each answer.
 #[derive(Default)]
 pub struct Seen {
-    pub kinds: [[u64; 13]; CALLS.len()],
-    pub refusals: [[u64; 26]; CALLS.len()],
+    pub kinds: [[u64; 14]; CALLS.len()],
+    pub refusals: [[u64; 27]; CALLS.len()],
 }
 
 /// The dead states of a set, if it has any.
@@ -97,8 +98,7 @@ pub struct Checker {
     pub parts: Parts,
     pub asked: Asked,
     pub cleanings: Cleanings,
-    /// Bids in service whose next action was a release.
-    pub releases: u64,
+    pub shares: Shares,
     /// Said first when something differs.
     pub input: String,
 }
@@ -112,6 +112,7 @@ fn told(answer: &sys::Answer) -> Answer {
         sys::FINISHED => Answer::Finished,
         sys::BUSY => Answer::Busy(answer.value),
         sys::HELD => Answer::Held(answer.value),
+        sys::SHARE_SPENT => Answer::ShareSpent,
         sys::RESTARTED => Answer::Restarted,
         sys::IN_FORBIDDEN_BOX => Answer::InForbiddenBox(answer.value),
         sys::IN_UNSAFE_BOX => Answer::InUnsafeBox(answer.value),
@@ -133,6 +134,7 @@ pub fn laid_out(answer: Answer) -> sys::Answer {
         Answer::Finished => of(sys::FINISHED, 0),
         Answer::Busy(device) => of(sys::BUSY, device),
         Answer::Held(rank) => of(sys::HELD, rank),
+        Answer::ShareSpent => of(sys::SHARE_SPENT, 0),
         Answer::Restarted => of(sys::RESTARTED, 0),
         Answer::InForbiddenBox(index) => of(sys::IN_FORBIDDEN_BOX, index),
         Answer::InUnsafeBox(index) => of(sys::IN_UNSAFE_BOX, index),
@@ -147,11 +149,11 @@ pub fn laid_out_analysis(analysis: Analysis) -> sys::Analysis {
 }
 
 pub fn record_of(record: sys::Record) -> Record {
-    Record { positions: record.positions, grants: record.grants }
+    Record { positions: record.positions, grants: record.grants, counts: record.counts }
 }
 
 pub fn lent_record(record: Record) -> sys::Record {
-    sys::Record { positions: record.positions, grants: record.grants }
+    sys::Record { positions: record.positions, grants: record.grants, counts: record.counts }
 }
 
 fn hexadecimal(bytes: &[u8]) -> String {
@@ -182,7 +184,7 @@ impl Checker {
             parts: Parts::default(),
             asked: Asked::default(),
             cleanings: Cleanings::default(),
-            releases: 0,
+            shares: Shares::default(),
             input: String::new(),
         }
     }
@@ -263,8 +265,8 @@ impl Checker {
     }
 
     /// The record as it is afterwards comes back, so that a list of bids can go on from it.
-    pub fn bid(&mut self, random: &mut Random, words: &[u32], worked: &Worked, map: &[u8], record: Record, task: usize) -> Record {
-        let made = Made { call: Call::Bid, words, beside: format!(" of task {task} on {record:?}"), map: Some(map) };
+    pub fn bid(&mut self, random: &mut Random, words: &[u32], worked: &Worked, map: &[u8], record: Record, task: usize, settings: Settings) -> Record {
+        let made = Made { call: Call::Bid, words, beside: format!(" of task {task} with {settings:?} on {record:?}"), map: Some(map) };
         let set = Fenced::new(random, words.len(), |i| words.get(i).copied().unwrap_or(0x2000_0000));
         let lent_map = Fenced::new(random, map.len(), |i| map.get(i).copied().unwrap_or(0));
         let (set_before, map_before) = (set.clone(), lent_map.clone());
@@ -272,24 +274,29 @@ impl Checker {
         let mut other = records.clone();
         let library = unsafe {
             let (set, map) = (set.read(), lent_map.read());
-            sys::arbiter_bid(&mut records.lent()[0], set.as_ptr(), set.len(), map.as_ptr(), map.len(), task)
+            sys::arbiter_bid(&mut records.lent()[0], set.as_ptr(), set.len(), map.as_ptr(), map.len(), task, settings.share, settings.window)
         };
         let mut after = record;
-        let reference = worked.bid(map, &mut after, task);
+        let reference = worked.bid(map, &mut after, task, settings);
         other.lent()[0] = lent_record(after);
         self.answers(&made, library, reference);
         self.alike(&made, "record", &records, &other);
         self.alike(&made, "set", &set, &set_before);
         self.alike(&made, "map", &lent_map, &map_before);
-        record_of(records.read()[0])
+        let after = record_of(records.read()[0]);
+        if let Ok(set) = &worked.set {
+            let bid = shares::Bid { set, map, before: record, after, task, settings, kind: library.kind, refusal: library.refusal };
+            if let Some(fault) = self.shares.count_bid(&bid) {
+                self.fail(&made, format!("the library answers {library:?} and leaves {after:?}: {fault}"));
+            }
+        }
+        after
     }
 
-    /// In service a release is always granted: the task has moved by its one step.
-    pub fn granted_release(&mut self, words: &[u32], task: usize, before: Record, after: Record) {
-        self.releases += 1;
-        if after.positions[task] != before.positions[task] + 1 {
-            let made = Made { call: Call::Bid, words, beside: format!(" of task {task} on {before:?}"), map: None };
-            self.fail(&made, "a release in service isn't granted".to_string());
+    /// What must be so of the bids on one record.
+    pub fn in_service(&self, words: &[u32], is_so: bool, what: impl Fn() -> String) {
+        if !is_so {
+            self.fail(&Made { call: Call::Bid, words, beside: String::new(), map: None }, what());
         }
     }
 
@@ -317,6 +324,9 @@ impl Checker {
         self.answers(&made, library, reference);
         self.alike(&made, "record", &records, &other);
         self.alike(&made, "set", &set, &before);
+        if let Ok(set) = &worked.set {
+            self.shares.count_again(set, &record, library);
+        }
         record_of(records.read()[0])
     }
 
@@ -334,6 +344,9 @@ impl Checker {
         };
         let reference = worked.route(map, &record, other.lent());
         self.answers(&made, library, reference);
+        if let Ok(set) = &worked.set {
+            self.shares.count_route(set, &record, library);
+        }
         self.alike(&made, "route slice", &route, &other);
         self.alike(&made, "set", &set, &set_before);
         self.alike(&made, "map", &lent_map, &map_before);
@@ -396,6 +409,7 @@ impl Checker {
 
     /// A record between fences of other records.
     fn records(&self, random: &mut Random, record: Record) -> Fenced<sys::Record> {
-        Fenced::new(random, 1, |i| if i == 0 { lent_record(record) } else { sys::Record { positions: [0xA5; 8], grants: 0x5A5A_5A5A } })
+        let fence = sys::Record { positions: [0xA5; 8], grants: 0x5A5A_5A5A, counts: [0xC3; 8] };
+        Fenced::new(random, 1, |i| if i == 0 { lent_record(record) } else { fence })
     }
 }

@@ -5,7 +5,7 @@ use crate::cases;
 use crate::random::Random;
 use crate::reference::{held_after, Action, Answer, Refusal, Set, State, Worked};
 use crate::stored_plan;
-use arbiter::{Analysed, BidAnswer, BoxKind, Location, PerThousand, Plan, Record, Refused, Service};
+use arbiter::{Analysed, BidAnswer, BoxKind, Location, PerThousand, Plan, Record, Refused, Service, Settings};
 use std::fmt::Debug;
 
 const STATES: usize = 3; // looked at of each set
@@ -25,7 +25,8 @@ pub fn check(random: &mut Random, words: &[u32], worked: &Worked, set: &Set) -> 
     }
     same("state beyond the last", analysed.set().state_of_rank(worked.map.len()), None)?;
     for _ in 0..STATES {
-        location(analysed.plan(), &cases::record(random, set, &worked.map).positions, set.tasks.len())?;
+        let settings = cases::settings(random);
+        location(analysed.plan(), &cases::record(random, set, &worked.map, settings).positions, set.tasks.len())?;
     }
     service(random, analysed, worked, set)
 }
@@ -123,24 +124,29 @@ fn location(plan: Plan, positions: &State, tasks: usize) -> Result<(), String> {
     same("whether the box that is named holds the state", holds, found.index().map(|_| true))
 }
 
-/// From any record, if it is open, by bids of any tasks.
+/// From any record, if it is open, by bids of any tasks with any settings.
 fn service(random: &mut Random, analysed: Analysed, worked: &Worked, set: &Set) -> Result<(), String> {
-    let mut record = cases::record(random, set, &worked.map);
+    let mut settings = cases::settings(random);
+    let mut record = cases::record(random, set, &worked.map, settings);
     let fits = record.positions.iter().zip(set.end()).all(|(&position, last)| position <= last);
     same("whether there is such a state", analysed.set().state(record.positions).is_some(), fits)?;
     let open = worked.route(&worked.map, &record, &mut [0; 4096]);
-    let mut service = match (Service::resume(analysed, Record::new(record.positions, record.grants)), open) {
+    let mut service = match (Service::resume(analysed, Record::new(record.positions, record.grants, record.counts)), open) {
         (Ok(service), Answer::Routed(_)) => service,
         (Err(refused), Answer::Refused(refusal)) => return same("refused record", number_and_place(refused), refusal),
         (resumed, answer) => return Err(format!("resume gives {:?}, the reference's route {answer:?}", resumed.map(|_| ()))),
     };
     for _ in 0..BIDS {
         let task = cases::task(random, set.tasks.len());
-        same("bid", answer_of(service.bid(task)), worked.bid(&worked.map, &mut record, task))?;
+        same("bid", answer_of(service.bid(task, Settings::new(settings.share, settings.window))), worked.bid(&worked.map, &mut record, task, settings))?;
         let again = service.again().map_or_else(|refused| Answer::Refused(number_and_place(refused)), |()| Answer::Restarted);
         same("again", again, worked.again(&mut record))?;
-        same("record", service.record(), &Record::new(record.positions, record.grants))?;
+        same("record", service.record(), &Record::new(record.positions, record.grants, record.counts))?;
+        same("grants of the window", service.record().window_grants(), record.window_grants())?;
         same("state", service.state().positions(), record.positions)?;
+        if random.one_in(4) {
+            settings = cases::settings(random);
+        }
     }
     Ok(())
 }
@@ -155,6 +161,7 @@ fn answer_of(answer: Result<BidAnswer, Refused>) -> Answer {
         Ok(BidAnswer::Finished) => Answer::Finished,
         Ok(BidAnswer::Busy { device }) => Answer::Busy(device as u64),
         Ok(BidAnswer::Held { rank }) => Answer::Held(rank as u64),
+        Ok(BidAnswer::ShareSpent) => Answer::ShareSpent,
         Err(refused) => Answer::Refused(number_and_place(refused)),
     }
 }

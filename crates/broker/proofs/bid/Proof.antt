@@ -1,27 +1,12 @@
 -- `broker::bid` meets its contract: the record moves exactly if the answer is Granted.
 use borrow.Author.Needs.{needs}
-use mathlib.Core.Path.{_≡_, refl, sym, ap, _∙_}
-use mathlib.Core.Bool.{false}
-use mathlib.Core.List.{[], _∷_}
-use types.Run.{OneOf, miss}
-use denote.Enum.Declared.{tagOf}
+use mathlib.Core.Path.{sym, ap, _∙_}
 use Rattle.model.specs.Broker.{isGranted}
-use Rattle.broker.specs.declared.BidAnswer.{BidAnswer}
-use Rattle.broker.specs.declared.BidAnswer.the-variants.{Granted, Finished, Busy, Held, Refused}
 use Rattle.broker.specs.Says.{bidOf}
-use Rattle.broker.proofs.BidAnswer as E
+use Rattle.broker.proofs.Granted.{not-granted}
 use Rattle.broker.proofs.BidCases.{granted-left}
 use Rattle.broker.proofs.bid.Statement.{statement}
 use Rattle.broker.proofs.bid.Tie as tie
-
--- every other answer leaves the record
-not-granted : (a : BidAnswer) → OneOf (1 ∷ 2 ∷ 3 ∷ 4 ∷ []) (tagOf E.the-type a) → isGranted (bidOf a) ≡ false
-unfolding isGranted bidOf
-not-granted Granted o = absurd (miss (1 ∷ 2 ∷ 3 ∷ 4 ∷ []) 0 tt o)
-not-granted Finished o = refl
-not-granted (Busy d) o = refl
-not-granted (Held r) o = refl
-not-granted (Refused n p) o = refl
 
 answer-requires : tie.Need-answer-requires
 answer-requires c κs = search needs
@@ -33,7 +18,7 @@ granted-requires : tie.Need-granted-requires
 unfolding bidOf
 granted-requires c κs =
     let b = c .before .before in
-    granted-left _ _ _ _ (sym (b .answer .ensures) ∙ ap bidOf (c .enum-told .given .1))
+    granted-left _ _ _ _ _ (sym (b .answer .ensures) ∙ ap bidOf (c .enum-told .given .1))
 
 returns : tie.Need-returns
 unfolding isGranted bidOf

@@ -1,14 +1,13 @@
 -- `records::some_above` meets its contract. The invariant: none of the numbers before t is over its limit.
 use borrow.Author.Needs.{needs}
 use borrow.Author.Tests.{lt-ltb, le-ltb}
-use Prim.Native.Nat.{ℕ, _-_, _≤_}
+use Prim.Native.Nat.{_-_, _≤_}
 use native.Mathlib.Omega.{arith}
-use native.Mathlib.Nat.{le-antisymm}
 use mathlib.Core.Path.{_≡_, refl, sym}
-use mathlib.Core.Bool.{Bool, false}
+use mathlib.Core.Bool.{false}
 use lib.ListN.{length}
 use Rattle.model.specs.Below.{any}
-use Rattle.model.proofs.Bools.{any-more, any-intro}
+use Rattle.model.proofs.Bools.{any-more, any-intro, any-whole}
 use Rattle.records.proofs.Placed.{above}
 use Rattle.records.proofs.some_above.Statement.{statement}
 use Rattle.records.proofs.some_above.Tie as tie
@@ -18,9 +17,6 @@ Inv-loop numbers limits t₀ t = (length numbers ≡ 8) × (length limits ≡ 8)
 
 abbrev μ-loop : tie.MeasureT-loop
 μ-loop numbers limits t₀ t = 8 - t
-
-done : (f : ℕ → Bool) (t : ℕ) → t ≤ 8 → 8 ≤ t → any t f ≡ false → any 8 f ≡ false
-done f t a b e = rw (le-antisymm b a) e
 
 loop-holds : tie.Need-loop-holds Inv-loop μ-loop
 unfolding any
@@ -53,7 +49,7 @@ returns-2 : tie.Need-returns-2 Inv-loop μ-loop
 returns-2 c =
     let k = c .before .before .args in
     let i = c .before .loop in
-    sym (done (above (k .t2) (k .t1)) (i .t) (omega arith) (omega arith) (i .inv .3))
+    sym (any-whole (above (k .t2) (k .t1)) 8 (i .t) (omega arith) (omega arith) (i .inv .3))
 
 pub some-above-spec : {M : Type 1} → statement M
 some-above-spec =

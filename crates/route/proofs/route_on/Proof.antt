@@ -10,8 +10,9 @@ use Rattle.model.specs.Record.{Record}
 use Rattle.shape.specs.Declares.{Declares}
 use Rattle.shape.proofs.Declared.{grid-is, lengths-taken}
 use Rattle.records.specs.Says.{recordOf}
-use Rattle.records.proofs.Placed.{Ranked, ranked-inside}
-use Rattle.route.proofs.Answers.{same-fitted, short, bad-positions, on-grid, own-forbidden, own-unsafe, own-unknown, own-open}
+use Rattle.records.specs.Ranked.{Ranked}
+use Rattle.records.proofs.Placed.{ranked-inside}
+use Rattle.route.proofs.Answers.{same-fitted, short, bad-record, on-grid, own-forbidden, own-unsafe, own-unknown, own-open}
 use Rattle.route.proofs.route_on.Statement.{statement}
 use Rattle.route.proofs.route_on.Tie as tie
 
@@ -38,7 +39,7 @@ found : (c : tie.After-rank-of) {words : List ℕ} {s : Set} → Declares words 
 found c d = record {
   eight = eight c;
   room = sym (fits c .too-short .ensures _ _ d) ∙ c .before .before .before .if1 .left;
-  right = sym (c .before .before .misplaced .ensures _ _ d) ∙ c .before .if2 .left;
+  fits = sym (c .before .before .unfit .ensures _ _ d) ∙ c .before .if2 .left;
   ranked = c .rank-of .ensures _ _ d;
 }
 
@@ -58,8 +59,8 @@ returns c words s d =
     c .before .before .refuse .ensures
     ∙ same-fitted (b .args .slice .now) (short d (b .args .map .now) (lent b) (sym (t .before .too-short .ensures words s d) ∙ t .if1 .taken))
 
-misplaced-requires : tie.Need-misplaced-requires
-misplaced-requires c κs = search needs
+unfit-requires : tie.Need-unfit-requires
+unfit-requires c κs = search needs
 
 refuse-requires-2 : tie.Need-refuse-requires-2
 refuse-requires-2 c κs = search needs
@@ -75,8 +76,8 @@ returns-2 c words s d =
     let b = begun (e .before) in
     c .before .before .refuse2 .ensures
     ∙ same-fitted (b .args .slice .now)
-    (bad-positions d (b .args .map .now) (lent b) (sym (e .before .too-short .ensures words s d) ∙ e .if1 .left)
-    (sym (p .misplaced .ensures words s d) ∙ t .if2 .taken))
+    (bad-record d (b .args .map .now) (lent b) (sym (e .before .too-short .ensures words s d) ∙ e .if1 .left)
+    (sym (p .unfit .ensures words s d) ∙ t .if2 .taken))
 
 rank-of-requires : tie.Need-rank-of-requires
 rank-of-requires c κs = search needs
@@ -148,7 +149,7 @@ route-on-spec =
     refuse-requires
     same-length
     returns
-    misplaced-requires
+    unfit-requires
     refuse-requires-2
     same-length-2
     returns-2

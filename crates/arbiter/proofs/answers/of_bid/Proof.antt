@@ -17,6 +17,12 @@ enum-told-2 c = search needs
 plain-requires-2 : tie.Need-plain-requires-2
 plain-requires-2 c κs = search needs
 
+enum-told-3 : tie.Need-enum-told-3
+enum-told-3 c = search needs
+
+plain-requires-3 : tie.Need-plain-requires-3
+plain-requires-3 c κs = search needs
+
 enum-known-answer : tie.Need-enum-known-answer
 enum-known-answer c = search needs
 
@@ -48,15 +54,19 @@ returns-2 c = rw (c .before .enum-told2 .given .1) (c .plain2 .ensures)
 
 returns-3 : tie.Need-returns-3
 unfolding tell bidNumbers bidOf
-returns-3 c = rw (c .before .before .answer .given .1) (c .valued .ensures)
+returns-3 c = rw (c .before .enum-told3 .given .1) (c .plain3 .ensures)
 
 returns-4 : tie.Need-returns-4
 unfolding tell bidNumbers bidOf
-returns-4 c = rw (c .before .before .answer2 .given .1) (c .valued2 .ensures)
+returns-4 c = rw (c .before .before .answer .given .1) (c .valued .ensures)
 
 returns-5 : tie.Need-returns-5
+unfolding tell bidNumbers bidOf
+returns-5 c = rw (c .before .before .answer2 .given .1) (c .valued2 .ensures)
+
+returns-6 : tie.Need-returns-6
 unfolding tell bidOf
-returns-5 c = rw (c .before .before .answer3 .given .1) (c .refuse .ensures)
+returns-6 c = rw (c .before .before .answer3 .given .1) (c .refuse .ensures)
 
 pub of-bid-spec : {M : Type 1} → statement M
 of-bid-spec =
@@ -66,6 +76,8 @@ of-bid-spec =
     plain-requires
     enum-told-2
     plain-requires-2
+    enum-told-3
+    plain-requires-3
     enum-known-answer
     cast-valued
     valued-requires
@@ -77,4 +89,5 @@ of-bid-spec =
     returns-2
     returns-3
     returns-4
-    returns-5)
+    returns-5
+    returns-6)

@@ -15,6 +15,9 @@ least-requires-2 c κs = search needs
 record-of-requires : tie.Need-record-of-requires
 record-of-requires c κs = search needs
 
+counted-requires : tie.Need-counted-requires
+counted-requires c κs = search needs
+
 cast-next : tie.Need-cast-next
 cast-next c = search needs
 
@@ -57,6 +60,9 @@ returns-4 c = search needs
 returns-5 : tie.Need-returns-5
 returns-5 c = search needs
 
+returns-6 : tie.Need-returns-6
+returns-6 c = search needs
+
 pub answer-call-spec : {M : Type 1} → statement M
 answer-call-spec =
     tie.close
@@ -64,6 +70,7 @@ answer-call-spec =
     least-requires
     least-requires-2
     record-of-requires
+    counted-requires
     cast-next
     cast-next-2
     slice-aggregate-show-route
@@ -77,4 +84,5 @@ answer-call-spec =
     returns-2
     returns-3
     returns-4
-    returns-5)
+    returns-5
+    returns-6)

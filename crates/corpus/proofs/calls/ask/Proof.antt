@@ -9,8 +9,8 @@ use Rattle.corpus.proofs.calls.ask.Tie as tie
 least-requires : tie.Need-least-requires
 least-requires c κs = search needs
 
-positions-of-requires : tie.Need-positions-of-requires
-positions-of-requires c κs = search needs
+eight-of-requires : tie.Need-eight-of-requires
+eight-of-requires c κs = search needs
 
 slice-aggregate-sweep : tie.Need-slice-aggregate-sweep
 slice-aggregate-sweep c = sym (length-take-le _ _ (omega arith))
@@ -41,7 +41,7 @@ ask-spec =
     tie.close
     (tie.spec
     least-requires
-    positions-of-requires
+    eight-of-requires
     slice-aggregate-sweep
     cast-sweep
     sweep-requires

@@ -5,10 +5,10 @@ use Rattle.corpus.proofs.rounds.show_rounds.Statement.{statement}
 use Rattle.corpus.proofs.rounds.show_rounds.Tie as tie
 
 abbrev Inv-loop : tie.InvT-loop
-Inv-loop words map times tasks count now₀ k₀ now k = Unit {0}
+Inv-loop words map times bids now₀ k₀ now k = Unit {0}
 
 abbrev μ-loop : tie.MeasureT-loop
-μ-loop words map times tasks count now₀ k₀ now k = times - k
+μ-loop words map times bids now₀ k₀ now k = times - k
 
 loop-holds : tie.Need-loop-holds Inv-loop μ-loop
 loop-holds c = search needs

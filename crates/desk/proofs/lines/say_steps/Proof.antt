@@ -14,11 +14,11 @@ abbrev μ-loop : tie.MeasureT-loop
 loop-holds : tie.Need-loop-holds Inv-loop μ-loop
 loop-holds c = search needs
 
-shared-slice-read-say-step : tie.Need-shared-slice-read-say-step Inv-loop μ-loop
-shared-slice-read-say-step c = search needs
+shared-slice-read-say-number : tie.Need-shared-slice-read-say-number Inv-loop μ-loop
+shared-slice-read-say-number c = search needs
 
-say-step-requires : tie.Need-say-step-requires Inv-loop μ-loop
-say-step-requires c κs = search needs
+say-number-requires : tie.Need-say-number-requires Inv-loop μ-loop
+say-number-requires c κs = search needs
 
 add-i : tie.Need-add-i Inv-loop μ-loop
 add-i c = search needs
@@ -39,8 +39,8 @@ say-steps-spec =
     Inv-loop
     μ-loop
     loop-holds
-    shared-slice-read-say-step
-    say-step-requires
+    shared-slice-read-say-number
+    say-number-requires
     add-i
     loop-less
     loop-again

@@ -15,8 +15,11 @@ element-write-next c = search needs
 wrapping-add-u32-requires : tie.Need-wrapping-add-u32-requires
 wrapping-add-u32-requires c κs = search needs
 
+counted-requires : tie.Need-counted-requires
+counted-requires c κs = search needs
+
 returns : tie.Need-returns
-returns c = rw (c .wrapping-add-u32 .ensures)
+returns c = rw (c .before .before .wrapping-add-u32 .ensures, c .counted .ensures)
 
 pub granted-spec : {M : Type 1} → statement M
 granted-spec =
@@ -26,4 +29,5 @@ granted-spec =
     add-next
     element-write-next
     wrapping-add-u32-requires
+    counted-requires
     returns)

@@ -1,8 +1,8 @@
--- `broker::bids::refuse` meets its contract: a refusal says its number and place.
+-- `broker::by_map::refuse` meets its contract: a refusal says its number and place.
 use mathlib.Core.Path.{refl}
 use Rattle.broker.specs.Says.{bidOf}
-use Rattle.broker.proofs.bids.refuse.Statement.{statement}
-use Rattle.broker.proofs.bids.refuse.Tie as tie
+use Rattle.broker.proofs.by_map.refuse.Statement.{statement}
+use Rattle.broker.proofs.by_map.refuse.Tie as tie
 
 returns : tie.Need-returns
 unfolding bidOf

@@ -1,4 +1,4 @@
--- `broker::bids::byte_answer` meets its contract, byte by byte.
+-- `broker::by_map::byte_answer` meets its contract, byte by byte.
 use borrow.Author.Needs.{needs}
 use borrow.Author.Tests.{lt-ltb, le-ltb, eq-eqb, ne-eqb, eqb-false}
 use Prim.Native.Nat.{ℕ, _<_, _≤_}
@@ -9,8 +9,8 @@ use Rattle.model.specs.Answer.{given, refused}
 use Rattle.model.specs.Broker.{granted, busy, held, bidByte}
 use Rattle.model.proofs.Bools.{by-bool}
 use Rattle.broker.specs.Says.{bidOf}
-use Rattle.broker.proofs.bids.byte_answer.Statement.{statement}
-use Rattle.broker.proofs.bids.byte_answer.Tie as tie
+use Rattle.broker.proofs.by_map.byte_answer.Statement.{statement}
+use Rattle.broker.proofs.by_map.byte_answer.Tie as tie
 
 module _ (b r d : ℕ) where
   open-byte : b ≡ 0 → given granted ≡ bidByte b r d
