@@ -5,6 +5,8 @@
 //                             whose shares are spent
 //     bench questions FILE..  for each set's plan and some states: set, tasks, plan words, where the state lies, answer, and nanoseconds of both
 //     bench cleanings FILE..  for each set, which may have devices that no task claims: set, words, words that go, answer, and nanoseconds of both
+//     bench trials FILE..     for each set file NAME.set, with what the trial is lent beside it in NAME.trial: set, tasks, bids, how many of them were answered Granted, Busy,
+//                             Held, Share spent and Finished, and nanoseconds of both
 //     bench growth FILE..     for each set file FAMILY-SIZE.set: family, size, states, plan words, and nanoseconds of both analyses
 //     bench stack FILE..      for each call: its name, and the most bytes of stack that it took on any of the sets
 //
@@ -30,6 +32,7 @@ const MAP: usize = 65536; // bytes: fits every set
 const PLAN: usize = 400_000; // more words than any plan has
 const SHORT_PLAN: usize = 64;
 const TURNS: u128 = 250; // milliseconds that the two take turns for
+const LONG: u128 = 1000; // milliseconds after which calls that take long have no further turn
 const NO_SHARES: Settings = Settings { share: 255, window: 255 };
 const SHARES: Settings = Settings { share: 1, window: 8 };
 
@@ -78,6 +81,17 @@ fn of_question(answer: Result<baseline::Located, baseline::Refusal>) -> Answer {
         Ok(baseline::Located::Unsafe(index)) => plain(sys::IN_UNSAFE_BOX, index as u64),
         Ok(baseline::Located::Neither) => plain(sys::IN_NO_BOX, 0),
         Err(refusal) => refused(refusal),
+    }
+}
+
+fn of_trial(answer: Result<baseline::Tried, baseline::Refusal>) -> sys::Trial {
+    let told = |answer: Answer, counted: baseline::Tried| {
+        let rows = counted.rows.map(|row| sys::Tally { granted: row.granted, busy: row.busy, held: row.held, share_spent: row.share_spent });
+        sys::Trial { answer, rows, finished: counted.finished }
+    };
+    match answer {
+        Ok(tried) => told(plain(sys::TRIED, tried.made as u64), tried),
+        Err(refusal) => told(refused(refusal), baseline::Tried::default()),
     }
 }
 
@@ -136,6 +150,11 @@ fn clean(words: &[u32], slice: &mut [u32]) -> Answer {
     unsafe { sys::arbiter_clean(words.as_ptr(), words.len(), slice.as_mut_ptr(), slice.len()) }
 }
 
+fn trial(words: &[u32], map: &[u8], order: &[u8], rounds: u16, settings: Settings) -> sys::Trial {
+    let Settings { share, window } = settings;
+    unsafe { sys::arbiter_trial(words.as_ptr(), words.len(), map.as_ptr(), map.len(), order.as_ptr(), order.len(), rounds, share, window) }
+}
+
 // --- Timing ---
 
 /// Nanoseconds of one call of each.
@@ -156,7 +175,8 @@ fn best_of(mut proved: impl FnMut(), mut yardstick: impl FnMut()) -> Times {
     let (mut best, mut other_best) = (f64::MAX, f64::MAX);
     let began = Instant::now();
     let mut turns = 0;
-    while turns < 30 || began.elapsed().as_millis() < TURNS {
+    // Thirty turns at least; five where thirty would take too long, as they would for millions of bids.
+    while turns < 5 || began.elapsed().as_millis() < if turns < 30 { LONG } else { TURNS } {
         best = best.min(time(batch, &mut proved));
         other_best = other_best.min(time(batch, &mut yardstick));
         turns += 1;
@@ -447,6 +467,36 @@ fn cleanings_of(file: &str) -> Vec<Line> {
     vec![line(set.to_string(), words.len()), line(format!("{set}, slice of one word"), 1)]
 }
 
+/// What a trial is lent beside the set and its map, from a file: the rounds in two bytes, lowest first, share, window, and then the order.
+fn lent_in(file: &str) -> (Vec<u8>, u16, Settings) {
+    let bytes = std::fs::read(file).unwrap();
+    let settings = Settings { share: bytes[2] as u32, window: bytes[3] as u32 };
+    (bytes[4..].to_vec(), u16::from_le_bytes([bytes[0], bytes[1]]), settings)
+}
+
+/// A trial on one set.
+fn trials_on(file: &str) -> Vec<Line> {
+    let words = &words_in(file)[..];
+    let (order, rounds, settings) = lent_in(&format!("{}.trial", file.trim_end_matches(".set")));
+    let (map, ..) = service(words);
+    let (set, order, map) = (name_of(file), &order[..], &map[..]);
+    let told = trial(words, map, order, rounds, settings);
+    assert!(told == of_trial(baseline::trial(words, map, order, rounds, settings)), "bench: {set}, tried: the two differ");
+    assert_eq!(told.answer.kind, sys::TRIED, "bench: {set}: the trial is refused");
+    let times = best_of(
+        || {
+            let _ = black_box(trial(black_box(words), map, black_box(order), rounds, black_box(settings)));
+        },
+        || {
+            black_box(baseline::trial(black_box(words), map, black_box(order), rounds, black_box(settings))).ok();
+        },
+    );
+    let all = |tally: fn(&sys::Tally) -> u32| told.rows.iter().map(tally).sum::<u32>();
+    let (granted, busy, held, spent) = (all(|row| row.granted), all(|row| row.busy), all(|row| row.held), all(|row| row.share_spent));
+    let tasks = baseline::read(words).unwrap().tasks;
+    vec![Line { text: format!("{set}\t{tasks}\t{}\t{granted}\t{busy}\t{held}\t{spent}\t{}", told.answer.value, told.finished), times }]
+}
+
 /// The lines that each file has.
 fn print_lines(files: &[String], lines: impl Fn(&str) -> Vec<Line>) {
     for Line { text, times: (proved, yardstick) } in files.iter().flat_map(|file| lines(file)) {
@@ -489,8 +539,8 @@ fn stack_of<T>(call: impl FnOnce() -> T) -> usize {
 }
 
 fn stack(files: &[String]) {
-    let names = ["arbiter_analyse", "arbiter_read", "arbiter_bid", "arbiter_again", "arbiter_route", "arbiter_locate", "arbiter_clean"];
-    let mut most = [0; 7];
+    let names = ["arbiter_analyse", "arbiter_read", "arbiter_bid", "arbiter_again", "arbiter_route", "arbiter_locate", "arbiter_clean", "arbiter_trial"];
+    let mut most = [0; 8];
     for file in files {
         let words = &words_in(file)[..];
         let (map, tasks, end) = service(words);
@@ -508,6 +558,10 @@ fn stack(files: &[String]) {
             for &task in &tasks {
                 taken(2, stack_of(|| bid(&mut record, words, &map, task, settings)));
             }
+        }
+        let order: Vec<u8> = (0..baseline::read(words).map_or(1, |set| set.tasks as u8)).collect();
+        for settings in [NO_SHARES, SHARES] {
+            taken(7, stack_of(|| trial(words, &map, &order, words.len() as u16, settings)));
         }
         let mut record = end;
         taken(3, stack_of(|| again(&mut record, words)));
@@ -535,6 +589,7 @@ fn main() {
             "growth" => print_lines(&arguments[1..], growth_of),
             "questions" => print_lines(&arguments[1..], questions_on),
             "cleanings" => print_lines(&arguments[1..], cleanings_of),
+            "trials" => print_lines(&arguments[1..], trials_on),
             "stack" => stack(&arguments[1..]),
             _ => print_lines(&arguments[1..], lines_of),
         }

@@ -1,6 +1,6 @@
 #!/usr/bin/env python3
-"""sets.py DIR: writes the sets that the benchmark runs on, four bytes a word, lowest first: DIR/NAME.set for the table, DIR/growth/FAMILY-SIZE.set for growth, and
-DIR/clean/NAME.set, with devices that no task claims, for the cleaner."""
+"""sets.py DIR: writes the sets that the benchmark runs on, four bytes a word, lowest first: DIR/NAME.set for the table, DIR/growth/FAMILY-SIZE.set for growth,
+DIR/clean/NAME.set, with devices that no task claims, for the cleaner, and DIR/trials/NAME.set for trials, with what each is lent beside it in DIR/trials/NAME.trial."""
 import os
 import random
 import struct
@@ -22,6 +22,13 @@ def save(name, capacities, tasks):
     words.append(0x50000000 | len(words))
     with open(os.path.join(sys.argv[1], name + ".set"), "wb") as out:
         out.write(struct.pack("<%dI" % len(words), *words))
+
+
+def save_trial(name, capacities, tasks, order, rounds, share, window):
+    """The set, and beside it the rounds in two bytes, lowest first, share, window, and the order, a byte a task."""
+    save("trials/" + name, capacities, tasks)
+    with open(os.path.join(sys.argv[1], "trials", name + ".trial"), "wb") as out:
+        out.write(struct.pack("<HBB", rounds, share, window) + bytes(order))
 
 
 def pairs(n, actions):
@@ -136,13 +143,19 @@ def spread(tasks):
     return [[action & 0xF0000000 | 2 * (action & 15) for action in task] for task in tasks]
 
 
-for folder in ("growth", "clean"):
+def named(tasks):
+    """The longest order, 255 places: these tasks in turn."""
+    return [tasks[i % len(tasks)] for i in range(255)]
+
+
+for folder in ("growth", "clean", "trials"):
     os.makedirs(os.path.join(sys.argv[1], folder), exist_ok=True)
 
 # --- The table ---
 
 # Example a of docs/SCOPE.md.
-save("a", [1, 1], [[claim(0), claim(1), release(1), release(0)], [claim(1), claim(0), release(0), release(1)]])
+crossing = [[claim(0), claim(1), release(1), release(0)], [claim(1), claim(0), release(0), release(1)]]
+save("a", [1, 1], crossing)
 # 15,625 states.
 save("philosophers6", *philosophers(6))
 # 16,129 forbidden boxes, the most there are.
@@ -186,6 +199,35 @@ save("clean/a_spread", [1] * 4, spread([[claim(0), claim(1), release(1), release
 save("clean/longest_spread", [1] * 16, spread([[]] * 3 + [[a for i in range(127) for a in (claim(i % 8), release(i % 8))]] * 2 + [[]] * 3))
 # Eight tasks, and 15 of 16 devices go.
 save("clean/pool8_of_16", [1] * 15 + [3], [[claim(15), release(15)]] * 8)
+
+# --- Trials ---
+
+MOST = 65535  # rounds: with an order of 255 as many bids as a trial can make, 16,711,425
+MILLIONS = 8192  # rounds: with an order of 255 two million bids
+
+
+def own(d):
+    """A claim and a release of one device."""
+    return [claim(d), release(d)]
+
+
+# Sets that wait. With a share of 1 and a window of 255 a task that was granted once waits for the sake of one that the order doesn't name: the last, if nothing else is
+# said. Two tasks that wait so, by turns.
+save_trial("spent", [1] * 3, [own(0), own(1), own(2)], named([0, 1]), MOST, 1, 255)
+# One that waits so, and holds the device that another wants.
+save_trial("busy_and_spent", [1] * 2, [own(0), own(0), own(1)], named([0, 1]), MILLIONS, 1, 255)
+# Seven that wait so for the sake of the first, which the yardstick looks at last.
+save_trial("eight_spent", [1] * 8, [own(d) for d in range(8)], named(range(1, 8)), MILLIONS, 1, 255)
+# Seven of which three wait so, three are busy and one is held.
+save_trial("eight_waiting", [1] * 5, crossing + [own(2), own(2), own(3), own(3), own(3), own(4)], named(range(7)), MILLIONS, 1, 255)
+
+# Of two tasks one is named: it goes to its end, and its bids are answered Finished from then on.
+save_trial("finished", [1, 1], crossing, named([0]), MILLIONS, 255, 255)
+
+# To the end: an order that names every task once, and as many rounds as there are actions. The last of these ends within a round.
+save_trial("a", [1, 1], crossing, [0, 1], 8, 1, 2)
+save_trial("dead_both", *dead_both(31, 42), [0, 1], 500, 2, 5)
+save_trial("tangled_5_2_3", *tangled(3, 5, 8, 2), range(5), 40, 2, 8)
 
 # --- Growth: each family from a few states to nearly as many as there can be ---
 

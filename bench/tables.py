@@ -1,9 +1,10 @@
 #!/usr/bin/env python3
-"""tables.py calls|questions|cleanings|stack: reads the lines of `bench calls`, `bench questions`, `bench cleanings` or `bench stack` on standard input and prints them as the
-tables of docs/PERFORMANCE.md."""
+"""tables.py calls|questions|cleanings|trials|stack: reads the lines of `bench calls`, `bench questions`, `bench cleanings`, `bench trials` or `bench stack` on standard input and
+prints them as the tables of docs/PERFORMANCE.md."""
 import sys
 
 CALLS = ("read", "bid", "again", "route")
+ANSWERS = ("granted", "busy", "held", "share spent", "finished")  # of a trial's bids
 
 
 def print_row(*cells):
@@ -50,6 +51,15 @@ def print_cleanings(rows):
         print_row(name, words, go, answer, *times)
 
 
+def print_trials(rows):
+    """A row a trial, and what a bid costs."""
+    print_head("trial", "tasks", "bids", "answers", "proved, µs", "yardstick, µs", "ratio", "ns a bid")
+    for name, tasks, bids, *answers, proved, yardstick in rows:
+        told = ", ".join("{:,} {}".format(int(n), answer) for n, answer in zip(answers, ANSWERS) if n != "0")
+        times = ("{:,.2f}".format(proved / 1e3), "{:,.2f}".format(yardstick / 1e3), "%.2f" % (proved / yardstick), "%.1f" % (proved / int(bids)))
+        print_row(name, tasks, "{:,}".format(int(bids)), told, *times)
+
+
 lines = [line.rstrip("\n").split("\t") for line in sys.stdin]
 if sys.argv[1] == "calls":
     measured = [(*line[:4], float(line[4]), float(line[5])) for line in lines]
@@ -63,6 +73,9 @@ elif sys.argv[1] == "questions":
 elif sys.argv[1] == "cleanings":
     print("\n## Cleaning\n")
     print_cleanings([(*line[:4], float(line[4]), float(line[5])) for line in lines])
+elif sys.argv[1] == "trials":
+    print("\n## Trials\n")
+    print_trials([(*line[:8], float(line[8]), float(line[9])) for line in lines])
 else:
     print("\n## Stack\n")
     print_head("call", "most measured on the sets above, bytes")

@@ -3,8 +3,8 @@
 
 The same names with the same values must stand in all three, none missing and none left over but for what one side has for itself: X in the source,
 ARBITER_X in C, X in Rust; in the source and in Rust with the same type. So must the calls, each with the names and types of what is lent, in their order, and the type of its
-answer, and in C marked as one whose answer must be used. The refusals' texts must be the same in C and Rust. The host in Python has all calls with
-these types, and what numbers it has are these.
+answer, and in C marked as one whose answer must be used; and the structs that go through them, each with the names and types of its fields, in their order. The refusals' texts
+must be the same in C and Rust. The host in Python has all calls and structs with these types, and what numbers it has are these.
 ROOT is the repository, by default the one that this file is in.
 """
 import ctypes
@@ -22,6 +22,7 @@ LIMITS = {
     "MAX_ACTIONS": 255,
     "MAX_GRID": 65536,
     "MAX_SETTING": 255,
+    "MAX_ORDER": 255,
     "FIELDS": 1 << 28,
     "NO_STEP": 255,
 }
@@ -30,14 +31,14 @@ MAP_BYTES = "OPEN FORBIDDEN UNSAFE DEAD".split()
 REFUSALS = """
     NO_WORDS TOO_MANY_WORDS WORD_AFTER_END UNKNOWN_KIND OUT_OF_ORDER FIELD_NOT_ALLOWED TOO_MANY CLAIM_OF_HELD RELEASE_OF_NOT_HELD STILL_HELD NO_END
     GRID_TOO_LARGE MAP_TOO_SHORT PLAN_TOO_SHORT BYTES_NOT_WORDS BAD_RECORD NO_SUCH_TASK BAD_MAP_BYTE NOT_AT_END NO_ROUTE ROUTE_TOO_SHORT
-    BAD_TASK_COUNT OUTSIDE_LAYOUT UNCLAIMED_DEVICE CLEAN_TOO_SHORT BAD_SETTING
+    BAD_TASK_COUNT OUTSIDE_LAYOUT UNCLAIMED_DEVICE CLEAN_TOO_SHORT BAD_SETTING BAD_ORDER
     """.split()
 
 # The kinds of an answer, and the version: major times 10,000, minor times 100, patch.
 ANSWER_KINDS = """
-    REFUSED ACCEPTED PLANNED ROUTED GRANTED FINISHED BUSY HELD RESTARTED IN_FORBIDDEN_BOX IN_UNSAFE_BOX IN_NO_BOX CLEANED SHARE_SPENT
+    REFUSED ACCEPTED PLANNED ROUTED GRANTED FINISHED BUSY HELD RESTARTED IN_FORBIDDEN_BOX IN_UNSAFE_BOX IN_NO_BOX CLEANED SHARE_SPENT TRIED
     """.split()
-VERSION = {"VERSION": 50000}
+VERSION = {"VERSION": 50100}
 
 # What hosts use and the proved source doesn't know: in the header, and in the package's plain.rs.
 OF_HOSTS = {"NOT_ANALYSED": 0xFF}
@@ -47,6 +48,10 @@ OF_SOURCE = {"THOUSAND": 1000}
 
 # What the proved source calls otherwise than hosts do: a name that is a crate's there, and a short one.
 OF_HOSTS_NAMED = {"rec": "record", "steps": "route"}
+
+# What C calls otherwise than the others: there a struct can't have the name of a call. And the header's own struct, which goes through no call.
+OF_C_NAMED = {"TrialResult": "Trial"}
+OF_HEADER = {"Box"}
 
 # Macros of the header that stand for no number.
 NO_NUMBERS = {"ARBITER_MUST_USE"}
@@ -135,8 +140,9 @@ def lent_in_header(parameter):
 
 
 def rust_type(kind):
-    plain = {"uint8_t": "u8", "uint32_t": "u32", "size_t": "usize"}
-    return plain.get(kind) or camel(kind.replace("arbiter_", ""))
+    plain = {"uint8_t": "u8", "uint16_t": "u16", "uint32_t": "u32", "uint64_t": "u64", "size_t": "usize"}
+    name = camel(kind.replace("arbiter_", ""))
+    return plain.get(kind) or OF_C_NAMED.get(name, name)
 
 
 def signature(parameters, lent, answer):
@@ -158,27 +164,59 @@ def of_header_calls(path):
     return once([(name, signature(parameters, lent_in_header, rust_type(answer))) for answer, name, parameters in rows], path.name)
 
 
+def of_structs(paths, where):
+    """The structs that are laid out as C does, in Rattle or Rust: name to fields."""
+    text = "\n".join(path.read_text() for path in paths)
+    rows = re.findall(r"^#\[repr\(C\)\]\n(?:#\[.*\]\n)*pub struct (\w+) \{([^}]*)\}", text, re.M)
+    fields = re.compile(r"^\s*pub (\w+: [^,]+),", re.M)
+    return once([(name, fields.findall(body.replace("model::", ""))) for name, body in rows], where)
+
+
+def of_header_structs(path):
+    """The header's structs in Rust's words, but for its own: name to fields."""
+    text = re.sub(r"/\*.*?\*/", "", path.read_text(), flags=re.S)
+    rows = re.findall(r"^typedef struct (arbiter_\w+) \{([^}]*)\} (\w+);", text, re.M)
+    pairs = [(rust_type(name), [field for line in body.split(";") for field in header_fields(line)]) for name, body, _ in rows]
+    return once([(name, fields) for name, fields in pairs if name not in OF_HEADER], path.name)
+
+
+def header_fields(line):
+    """The field that a line of a struct declares in the header, in Rust's words."""
+    return [f"{name}: [{rust_type(kind)}; {length}]" if length else f"{name}: {rust_type(kind)}"
+            for kind, name, length in re.findall(r"(\w+) (\w+)(?:\[ARBITER_(\w+)\])?", line)]
+
+
 def nameless(texts):
     """A signature without its names, and without what may be written: all that the types of Python tell."""
     return [text.split(": ")[-1].replace("*const ", "*mut ") for text in texts]
 
 
 def of_ctypes(kind):
-    plain = {ctypes.c_uint32: "u32", ctypes.c_uint8: "u8", ctypes.c_size_t: "usize"}
+    # On these machines a number of 64 bits and a length have one type.
+    plain = {ctypes.c_uint8: "u8", ctypes.c_uint16: "u16", ctypes.c_uint32: "u32", ctypes.c_size_t: "usize"}
     if issubclass(kind, ctypes._Pointer):
         return "*mut " + of_ctypes(kind._type_)
+    if issubclass(kind, ctypes.Array):
+        return f"[{of_ctypes(kind._type_)}; {kind._length_}]"
     return plain.get(kind) or kind.__name__
 
 
 def of_python(path):
-    """The numbers of the host in Python, and its calls with their types; but for the text, which isn't the library's."""
+    """The numbers of the host in Python, its calls with their types, but for the text, which isn't the library's, and its structs with their fields."""
     sys.dont_write_bytecode = True
     spec = importlib.util.spec_from_file_location(path.stem, path)
     module = importlib.util.module_from_spec(spec)
     spec.loader.exec_module(module)
     numbers = {name: value for name, value in vars(module).items() if name.isupper() and isinstance(value, int)}
     calls = {name: [*lent, answer] for name, (lent, answer) in module.CALLS.items() if name != "arbiter_refusal_text"}
-    return numbers, {name: [of_ctypes(kind) for kind in kinds] for name, kinds in calls.items()}
+    kinds = [kind for kind in vars(module).values() if isinstance(kind, type) and issubclass(kind, ctypes.Structure)]
+    structs = {kind.__name__: [f"{name}: {of_ctypes(of)}" for name, of in kind._fields_] for kind in kinds}
+    return numbers, {name: [of_ctypes(kind) for kind in kinds] for name, kinds in calls.items()}, structs
+
+
+def python_fields(fields):
+    """A struct's fields as Python has them: lengths by their numbers, and numbers of 64 bits by their size alone."""
+    return [field.replace("MAX_TASKS", str(LIMITS["MAX_TASKS"])).replace(": u64", ": usize") for field in fields]
 
 
 def camel(name):
@@ -203,10 +241,15 @@ def main(root):
     compare(of_header_calls(header), calls, "arbiter.h", "signature, its answer one that must be used,")
     compare(of_calls([root / "hosts/rust/src/sys.rs"], r"pub fn ", lambda part: [part], "sys.rs"), calls, "sys.rs", "signature")
 
-    python_numbers, python_calls = of_python(root / "hosts/python/serve.py")
+    structs = of_structs([path for crate in ("arbiter", "records", "trial") for path in sorted((root / "crates" / crate / "src").glob("*.rt"))], "the source")
+    compare(of_header_structs(header), structs, "arbiter.h", "fields")
+    compare(of_structs([root / "hosts/rust/src/sys.rs"], "sys.rs"), structs, "sys.rs", "fields")
+
+    python_numbers, python_calls, python_structs = of_python(root / "hosts/python/serve.py")
     known = {**WANTED, **OF_HOSTS}
     compare(python_numbers, {name: known[name] for name in python_numbers.keys() & known.keys()}, "serve.py")
     compare(python_calls, {name: nameless(texts) for name, texts in calls.items()}, "serve.py", "signature")
+    compare(python_structs, {name: python_fields(fields) for name, fields in structs.items()}, "serve.py", "fields")
 
     variants = once(re.findall(r"^\s*(\w+) = sys::(\w+),", safe.read_text(), re.M), "lib.rs")
     compare(variants, {camel(name): name for name in REFUSALS}, "lib.rs", "number")
@@ -222,7 +265,7 @@ def main(root):
         print(complaint)
     if complaints:
         sys.exit(1)
-    print(f"constants: {len(WANTED)} and {len(calls)} calls agree in the source, arbiter.h and sys.rs, and {len(texts)} refusal texts")
+    print(f"constants: {len(WANTED)}, {len(calls)} calls and {len(structs)} structs agree in the source, arbiter.h and sys.rs, and {len(texts)} refusal texts")
 
 
 if __name__ == "__main__":

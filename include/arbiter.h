@@ -3,8 +3,8 @@
  * A set is a list of 32-bit words that says which devices there are and in which order each task claims and releases them
  * (docs/AUTHORS.md). arbiter_analyse writes its map, a byte for each state of progress, and its plan, a list of boxes. In service
  * arbiter_bid is asked before every step of a task and says whether it may be made now; it sees to it that no task takes all the grants while
- * others could go on. arbiter_locate questions a plan that was stored, without its set. arbiter_clean mends a set that was stored with devices which
- * no task claims. docs/HOSTS.md tells the whole life of a set.
+ * others could go on; arbiter_trial says beforehand what a share and a window do. arbiter_locate questions a plan that was stored, without its set.
+ * arbiter_clean mends a set that was stored with devices which no task claims. docs/HOSTS.md tells the whole life of a set.
  *
  * What every call does and asks:
  * - It uses no heap, no global state, no signal and no callback, and always returns. arbiter_analyse needs some 300 KiB of stack, the others
@@ -34,18 +34,21 @@
 
 /* The version of this header: major times 10,000, minor times 100, patch. Header and library must be of the same one, since structs and
  * numbers may differ between two: compare it with arbiter_version() once, when the host starts, and stop if they differ. */
-#define ARBITER_VERSION 50000
+#define ARBITER_VERSION 50100
 
 /* The limits of a set. */
 #define ARBITER_MAX_WORDS 4096
 #define ARBITER_MAX_DEVICES 16
 #define ARBITER_MAX_CAPACITY 8
-#define ARBITER_MAX_TASKS 8     /* also the number of positions in a record and in a state, and of counts in a record */
+#define ARBITER_MAX_TASKS 8     /* also the number of positions in a record and in a state, of counts in a record, and of rows in a trial's result */
 #define ARBITER_MAX_ACTIONS 255 /* claims and releases of one task */
 #define ARBITER_MAX_GRID 65536  /* states: a map slice of this many bytes fits every set */
 
-/* The largest share and the largest window of a bid; the smallest of each is 1. With both at their largest no share is ever spent. */
+/* The largest share and the largest window of a bid or a trial; the smallest of each is 1. With both at their largest no share is ever spent. */
 #define ARBITER_MAX_SETTING 255
+
+/* The longest order of a trial; the shortest has one task. */
+#define ARBITER_MAX_ORDER 255
 
 /* A word is its kind times this, plus its field: word / ARBITER_FIELDS is the kind, word % ARBITER_FIELDS the field. */
 #define ARBITER_FIELDS 0x10000000
@@ -96,6 +99,7 @@
 #define ARBITER_IN_NO_BOX 11       /* arbiter_locate: no box holds the state */
 #define ARBITER_CLEANED 12         /* arbiter_clean: the cleaned set is written; value: its number of words */
 #define ARBITER_SHARE_SPENT 13     /* arbiter_bid: the task waits and asks again later: it has had its share, and another task is to go first */
+#define ARBITER_TRIED 14           /* arbiter_trial: the bids are made and counted; value: how many they were; beside it how they were answered */
 
 /* The refusals of a set, 1 to 12 and 24. The place is the faulty word's index, counted from 0, unless said otherwise.
  * All are the set's fault, and each comes in the same way from every call that is lent that set: return it to its author. Only arbiter_clean
@@ -126,7 +130,9 @@
 #define ARBITER_NO_ROUTE 20        /* place: the state's rank; the state is unsafe: no record in service ever is */
 #define ARBITER_ROUTE_TOO_SHORT 21 /* place: the length that the route needs; lend that much */
 #define ARBITER_CLEAN_TOO_SHORT 25 /* place: the length that the cleaned set needs; lend that much */
-#define ARBITER_BAD_SETTING 26     /* place: 0; a bid's share or window isn't 1 to 255: the host's slip */
+#define ARBITER_BAD_SETTING 26     /* place: 0; the share or the window of a bid or a trial isn't 1 to 255: the host's slip */
+#define ARBITER_BAD_ORDER 27       /* place: 0 for an order without tasks, else the first place that names a task which the set doesn't have, or is 255,
+                                    * which no order has: the host's slip, or that of whoever wrote the order */
 
 /* The refusals of a stored plan. */
 #define ARBITER_BAD_TASK_COUNT 22 /* place: 0; the task count isn't 1 to 8: the host's slip */
@@ -167,7 +173,24 @@ typedef struct arbiter_state {
     uint8_t positions[ARBITER_MAX_TASKS];
 } arbiter_state;
 
-/* The compiler must lay all four out as the library does. */
+/* A task's row in a trial: how many of its bids were answered GRANTED, BUSY, HELD and SHARE_SPENT. */
+typedef struct arbiter_tally {
+    uint32_t granted;
+    uint32_t busy;
+    uint32_t held;
+    uint32_t share_spent;
+} arbiter_tally;
+
+/* What a trial answers: beside the answer a row for each task, by its number, and how many bids of all tasks were answered FINISHED. If the answer is
+ * TRIED, the tallies of all rows and finished add up to its value, the bids made; rows of tasks that the set doesn't have are 0. In a refused answer
+ * every row and finished are 0 and tell nothing, also if bids were made before the one that was refused. */
+typedef struct arbiter_trial_result {
+    arbiter_answer answer;
+    arbiter_tally rows[ARBITER_MAX_TASKS];
+    uint64_t finished;
+} arbiter_trial_result;
+
+/* The compiler must lay all six out as the library does. */
 #if defined(__cplusplus) && __cplusplus >= 201103L
 #define ARBITER_ASSERT(name, condition) static_assert(condition, #name)
 #elif !defined(__cplusplus) && defined(__STDC_VERSION__) && __STDC_VERSION__ >= 201112L
@@ -189,6 +212,15 @@ ARBITER_ASSERT(place_of_grants, offsetof(arbiter_record, grants) == 8);
 ARBITER_ASSERT(place_of_counts, offsetof(arbiter_record, counts) == 12);
 ARBITER_ASSERT(size_of_state, sizeof(arbiter_state) == 8);
 ARBITER_ASSERT(place_of_state_positions, offsetof(arbiter_state, positions) == 0);
+ARBITER_ASSERT(size_of_tally, sizeof(arbiter_tally) == 16);
+ARBITER_ASSERT(place_of_granted, offsetof(arbiter_tally, granted) == 0);
+ARBITER_ASSERT(place_of_busy, offsetof(arbiter_tally, busy) == 4);
+ARBITER_ASSERT(place_of_held, offsetof(arbiter_tally, held) == 8);
+ARBITER_ASSERT(place_of_share_spent, offsetof(arbiter_tally, share_spent) == 12);
+ARBITER_ASSERT(size_of_trial_result, sizeof(arbiter_trial_result) == 152);
+ARBITER_ASSERT(place_of_trial_answer, offsetof(arbiter_trial_result, answer) == 0);
+ARBITER_ASSERT(place_of_rows, offsetof(arbiter_trial_result, rows) == 16);
+ARBITER_ASSERT(place_of_finished, offsetof(arbiter_trial_result, finished) == 144);
 ARBITER_ASSERT(size_of_length, sizeof(size_t) == 8);
 #undef ARBITER_ASSERT
 
@@ -285,6 +317,20 @@ ARBITER_MUST_USE arbiter_answer arbiter_locate(arbiter_state state, const uint32
  * such device comes back word for word.
  * Slices that may be empty: ARBITER_LEND(set), ARBITER_LEND(clean). */
 ARBITER_MUST_USE arbiter_answer arbiter_clean(const uint32_t *set, size_t set_len, uint32_t *clean, size_t clean_len);
+
+/* What do this share and this window do? A trial makes bids on a fresh record of its own, as arbiter_bid answers them: down the order, whose bytes are
+ * tasks' numbers, round after round, so many rounds. It looks before each bid whether every task is finished, and stops there early. A task that stands
+ * in the order twice bids twice in each round; one that doesn't stand there never bids, and others may wait for it all the time.
+ * TRIED with the number of bids made, and beside it how they were answered: a row for each task, and the bids answered FINISHED together. Or REFUSED 1
+ * to 13, 24, 26 or 27, whatever rounds is, or 16 or 18 where a bid is refused, which ends the trial without rows: both only for a map that isn't the
+ * set's own. The order has 1 to 255 tasks of the set, each as often as wanted. With no rounds, or a set without actions, no bid is made.
+ * Nothing lent is changed, and no record is lent, so it may be made at any time, in service too.
+ * rounds has 16 bits: a larger number must not be cut on its way into the call. 65,535 rounds of 255 tasks are 16,711,425 bids, the most that a trial
+ * can make and by far the longest call. With the set's own map and every task in the order, as many rounds as the set has actions bring every task home
+ * under every share and window, and more rounds cost nothing.
+ * Slices that may be empty: ARBITER_LEND(set), ARBITER_LEND(map), ARBITER_LEND(order). */
+ARBITER_MUST_USE arbiter_trial_result arbiter_trial(const uint32_t *set, size_t set_len, const uint8_t *map, size_t map_len, const uint8_t *order,
+                                                    size_t order_len, uint16_t rounds, uint32_t share, uint32_t window);
 
 #ifdef __cplusplus
 }
@@ -475,6 +521,7 @@ static inline const char *arbiter_kind_text(uint32_t kind) {
     case ARBITER_IN_NO_BOX: return "in no box";
     case ARBITER_CLEANED: return "cleaned";
     case ARBITER_SHARE_SPENT: return "share spent";
+    case ARBITER_TRIED: return "tried";
     default: return "no answer has this kind";
     }
 }
@@ -507,7 +554,8 @@ static inline const char *arbiter_refusal_text(uint32_t refusal) {
     case ARBITER_OUTSIDE_LAYOUT: return "no plan for so many tasks goes on like this: it was cut or damaged, or is for another number of tasks";
     case ARBITER_UNCLAIMED_DEVICE: return "no task claims this device: mend the claim that should name it, or let 'clean < OLDFILE > NEWFILE' take such devices out";
     case ARBITER_CLEAN_TOO_SHORT: return "the cleaned set has more words than its slice";
-    case ARBITER_BAD_SETTING: return "the share or the window that came with the bid is outside 1 to 255";
+    case ARBITER_BAD_SETTING: return "the share or the window is outside 1 to 255";
+    case ARBITER_BAD_ORDER: return "the order of a trial is empty, names a task here that the set doesn't have, or goes on after 255 tasks";
     default: return "no refusal has this number";
     }
 }

@@ -16,7 +16,7 @@ into the two slices, then the calls are made in order, accepted or not, on what 
     2 ROUTE length                     a route into a slice of that length, filled with AA before
     3 RECORD positions, positions, grants  the record is replaced; tasks 0 to 3, then 4 to 7, a byte each, lowest first; its counts are 0
     4 POKE rank, byte                  one byte of the map is replaced
-    5 LEND length                      later bids and routes are lent only that much of the map slice
+    5 LEND length                      later bids, routes and trials are lent only that much of the map slice
     6 BID_IN_PLACE task, share, window  a bid over a record that is lent to it
     7 ROUNDS times, tasks, bytes       so many times the bids of the first hexadecimal digits of `tasks`, the lowest digit first; how many digits, the share and the
                                        window are the bytes of the third value, the lowest first
@@ -27,6 +27,9 @@ into the two slices, then the calls are made in order, accepted or not, on what 
    12 CLEAN length                     the set is cleaned into a slice of that length, filled with AAAAAAAA before; if accepted, what was written is the set of all later calls
    13 ANALYSE                          the set is analysed anew into the two slices, filled as at the start
    14 COUNTS counts, counts            the record's counts are replaced, as positions are
+   15 PLACE place, tasks, tasks        eight bytes of the order's slice are replaced, from that place on; the slice has MAX_ORDER bytes, 0 at first
+   16 ORDER length                     later trials are lent that much of the order's slice, nothing at first
+   17 TRIAL rounds, share, window      a trial, which has a broker of its own: the record stays as it is
 
 Output, a line each:
     case NUMBER: PLANNED               planned WORDS, unsafe QUOTIENT/1000 rest REMAINDER, or refused N at P
@@ -42,7 +45,9 @@ and for each call that prints
                                        1 forbidden, 2 unsafe, 0 neither, 'x' refused; over 512 states '~' and the checksum of these bytes, 255 for 'x'
     ANSWER: WORD WORD ..               for a cleaning: cleaned WORDS or refused N at P; the whole slice, as a plan's
     PLANNED                            for an analysis, as for a case, and behind it the lines of the map and the plan
-RECORD, COUNTS, POKE, LEND, STORE and KEEP print nothing. The checksum is FNV-1a of 32 bits over the slice's bytes, a word's lowest byte first, in eight hexadecimal digits.
+    ANSWER ROWS FINISHED               for a trial: tried MADE or refused N at P; eight rows, [GRANTED BUSY HELD SPENT] each, and the bids answered Finished
+RECORD, COUNTS, POKE, LEND, STORE, KEEP, PLACE and ORDER print nothing. The checksum is FNV-1a of 32 bits over the slice's bytes, a word's lowest byte first, in eight
+hexadecimal digits.
 """
 
 import functools
@@ -61,6 +66,9 @@ MAX_CALLS = 514
 MAX_SWEEP = 65536
 # An accepted set has at most 533 words.
 MAX_CLEAN = 540
+# Longer than 16 bits count.
+MAX_ORDER = 65600
+MAX_ROUNDS = 65535
 
 # A cleaning and an analysis are put before a case's own calls.
 CLEANING_CALLS = 2
@@ -69,7 +77,7 @@ CLEANING_CALLS = 2
 ROW = 512
 MAX_ROUTE = ROW
 
-BID, AGAIN, ROUTE, RECORD, POKE, LEND, BID_IN_PLACE, ROUNDS, LOCATE, STORE, KEEP, SWEEP, CLEAN, ANALYSE, COUNTS = range(15)
+BID, AGAIN, ROUTE, RECORD, POKE, LEND, BID_IN_PLACE, ROUNDS, LOCATE, STORE, KEEP, SWEEP, CLEAN, ANALYSE, COUNTS, PLACE, ORDER, TRIAL = range(18)
 
 MAP_FILL, PLAN_FILL = 0xAA, 0xAAAAAAAA
 
@@ -77,6 +85,9 @@ SEED = 0x7469726C757A6B61
 
 # Settings and counts are drawn from dice of their own, so that the sets stay those of the versions without them.
 SHARE_SEED = 0x6661697273686172
+
+# Trials too.
+TRIAL_SEED = 0x747269616C736565
 
 HERE = os.path.dirname(os.path.abspath(__file__))
 FILES = [os.path.join(HERE, "..", "crates", "corpus", name) for name in ("stdin", "stdout")]
@@ -167,13 +178,13 @@ def answer_text(answer):
     return " ".join(str(part) for part in answer)
 
 
-def eight_text(numbers):
+def list_text(numbers):
     return "[%s]" % " ".join(str(number) for number in numbers)
 
 
 def record_text(record):
-    counts = " " + eight_text(record.counts) if any(record.counts) else ""
-    return "%s %d%s" % (eight_text(record.positions), record.grants, counts)
+    counts = " " + list_text(record.counts) if any(record.counts) else ""
+    return "%s %d%s" % (list_text(record.positions), record.grants, counts)
 
 
 @functools.lru_cache(maxsize=1)
@@ -189,6 +200,7 @@ class Play:
         self.words = tuple(case.words)
         self.record = FRESH
         self.lent, self.kept = case.map_length, case.plan_length
+        self.tasks, self.ordered = bytearray(MAX_ORDER), 0
         self.lengths = case.map_length, case.plan_length
         self.lines = ["case %d: " % number + self.analyse()] + self.slices()
         for call in case.calls:
@@ -221,6 +233,10 @@ class Play:
             for place in range(count):
                 met[self.bid(tasks >> 4 * place & 15, share, window)[0]] += 1
         return "rounds %s" % " ".join(str(met[name]) for name in met)
+
+    def trial(self, rounds, share, window):
+        tried = brute.trial(self.words, self.map[: self.lent], self.tasks[: self.ordered], rounds, Settings(share, window))
+        return "%s %s %d" % (answer_text(tried.answer), " ".join(list_text(row) for row in tried.rows), tried.finished)
 
     def locate(self, state, tasks):
         return brute.locate(state, self.plan[: self.kept], tasks)
@@ -263,6 +279,12 @@ class Play:
             self.lines.append(self.clean(a))
         elif kind == ANALYSE:
             self.lines += [self.analyse()] + self.slices()
+        elif kind == PLACE:
+            self.tasks[a : a + 8] = eight_in(b, c)
+        elif kind == ORDER:
+            self.ordered = a
+        elif kind == TRIAL:
+            self.lines.append(self.trial(a, b, c))
 
 
 # --- Sets ---
@@ -1390,11 +1412,257 @@ def share_cases(dice):
     return cases
 
 
+# --- Trials ---
+
+
+def absent_task(dice, s):
+    """A number that is no task's."""
+    return dice.pick([len(s.tasks), 8, 9, 128, 255])
+
+
+def whole_order(dice, s):
+    """An order that names every task, some more than once, and now and then one far more often."""
+    tasks = len(s.tasks)
+    more = [dice.below(tasks) for _ in range(dice.below(4))] + [dice.below(tasks)] * dice.pick([0, 0, 0, 3, 9])
+    return dice.mixed(list(range(tasks)) + more)
+
+
+def few_order(dice, s):
+    """An order of a few tasks, which may leave out others."""
+    return [dice.below(len(s.tasks)) for _ in range(dice.between(1, 5))]
+
+
+def any_order(dice, s):
+    return dice.pick([whole_order, whole_order, few_order])(dice, s)
+
+
+def long_order(dice, s, length):
+    return [dice.below(len(s.tasks)) for _ in range(length)]
+
+
+def absent_order(dice, s):
+    """An order with an absent task or two in it, or behind it."""
+    order = any_order(dice, s)
+    for _ in range(dice.pick([1, 1, 2])):
+        order.insert(dice.below(len(order) + 1), absent_task(dice, s))
+    return order
+
+
+def unreached_order(dice, s):
+    """An absent task behind as many rounds as the set has actions, or as there is room for: no bid of the first round reaches it."""
+    return (whole_order(dice, s) * sum(lengths_of(s)))[:254] + [absent_task(dice, s)]
+
+
+def too_long_order(dice, s):
+    """An order that is too long, by one place and by more; in half of them an absent task stands before the place 255, there or behind it."""
+    order = long_order(dice, s, dice.pick([256, 257, 300, 511, 512, 513]))
+    if dice.one_in(2):
+        order[dice.pick([0, 128, 253, 254, 255, -1])] = absent_task(dice, s)
+    return order
+
+
+def faulty_order(dice, s):
+    """An order that is refused."""
+    return dice.pick([lambda dice, s: [], absent_order, absent_order, unreached_order, too_long_order])(dice, s)
+
+
+def some_rounds(dice, s):
+    """No round, a few, about as many as the set has actions, or the most."""
+    actions = sum(lengths_of(s))
+    return dice.pick([0, 1, 1, 2, 3, actions, actions + 1, dice.below(actions + 2), MAX_ROUNDS])
+
+
+def bids_home(s, order, settings):
+    """The tasks of the bids that a trial makes on the set's own map, in as many rounds as there are actions."""
+    return [task for task, _ in brute.bids_tried(s, brute.map_of(s), order, sum(lengths_of(s)), settings)]
+
+
+def spoilt_bytes(dice, s):
+    """A few ranks at open states or a step behind them, each with another byte."""
+    bytes_, spoilt = brute.map_of(s), {}
+    for _ in range(dice.between(1, 3)):
+        state = dice.pick([state for state, byte in zip(brute.states_of(s), bytes_) if byte == brute.OPEN])
+        left = [task for task, length in enumerate(lengths_of(s)) if state[task] < length]
+        if left:
+            state = brute.next_state(state, dice.pick(left))
+        spoilt[brute.rank_of(s, state)] = dice.pick([0, 1, 2, 3, 4, 5, 128, 255])
+    return spoilt
+
+
+def laid(order):
+    """Calls that make this the order."""
+    calls = [(PLACE, place) + eight_words(order[place : place + 8]) for place in range(0, len(order), 8)]
+    return calls + [(ORDER, len(order))]
+
+
+def trial_call(rounds, settings):
+    return (TRIAL, rounds) + settings
+
+
+def own_map_trials(dice, s):
+    """Trials on the set's own map, with bids between them: neither knows of the other. The most rounds come only with an order that names every task."""
+    calls = []
+    for _ in range(8):
+        order = any_order(dice, s)
+        rounds = some_rounds(dice, s)
+        if set(order) != set(range(len(s.tasks))):
+            rounds = min(rounds, 40)
+        calls += laid(order) + [trial_call(rounds, any_settings(dice)), bid_call(dice, dice.below(len(s.tasks)), any_settings(dice))]
+    return calls
+
+
+def ending_trials(dice, s):
+    """Orders of the very bids that bring every task home, without the last of them and with more behind them, in one round and in two: every task is finished with a
+    round's last bid, before it, and only in the next."""
+    calls = []
+    for settings in (any_settings(dice), small_settings(dice)):
+        bids = bids_home(s, whole_order(dice, s), settings)
+        more = few_order(dice, s)
+        for order in (bids, bids[:-1], bids + more[:1], bids + more):
+            if 1 <= len(order) <= 255:
+                calls += laid(order) + [trial_call(rounds, settings) for rounds in (1, 2)]
+    return calls
+
+
+def faulty_order_trials(dice, s):
+    """Orders that are refused, and some that aren't, of the greatest length among them; no rounds now and then."""
+    calls = []
+    for _ in range(6):
+        calls += laid(faulty_order(dice, s)) + [trial_call(dice.pick([0, 1, 2]), any_settings(dice))]
+    for length in (254, 255):
+        calls += laid(long_order(dice, s, length)) + [trial_call(dice.pick([0, 1, 2]), any_settings(dice))]
+    return calls
+
+
+def length_trials(dice, s):
+    """Orders of task 0 alone, of every length near the greatest and of some that are right when cut to 8 or 16 bits; then an absent task at places around 255."""
+    calls = []
+    for length in (0, 1, 2, 254, 255, 256, 257, 511, 512, 513, 0xFFFF, 0x10000, 0x10001, MAX_ORDER):
+        calls += [(ORDER, length)] + [trial_call(rounds, any_settings(dice)) for rounds in (0, 1)]
+    for place in (257, 256, 255, 254, 253, 128, 8, 1, 0):
+        calls.append((PLACE, place) + eight_words([absent_task(dice, s)]))
+        calls += [call for length in (place, place + 1, place + 2) for call in ((ORDER, length), trial_call(1, any_settings(dice)))]
+    return calls
+
+
+def choice_trials(dice, s):
+    """Every choice of what a trial may be refused with, from 13 to 18, and no rounds: a map that is too short, settings, an order, the start's byte, a next state's."""
+    start = (0,) * len(s.tasks)
+    first = dice.pick([task for task, length in enumerate(lengths_of(s)) if length > 0])
+    rank = brute.rank_of(s, brute.next_state(start, first))
+    own_bytes, next_bytes = [0, dice.pick([1, 2, 3, 4, 255])], [brute.map_of(s)[rank], dice.pick([4, 5, 128, 255])]
+    good = [first] + whole_order(dice, s)[:7]
+    bad = good[:6] + [absent_task(dice, s)]
+    calls = []
+    for short, setting, order, own, following, none in itertools.product((False, True), repeat=6):
+        calls += [(LEND, grid_of(s) - short), (POKE, 0, own_bytes[own]), (POKE, rank, next_bytes[following])]
+        calls += laid(bad if order else good) + [trial_call(0 if none else 2, refused_settings(dice) if setting else small_settings(dice))]
+    return calls
+
+
+def settings_trials(dice, s):
+    """Every pair of these settings, with no rounds, with one and with three."""
+    numbers = (0, 1, 2, 3, 254, 255, 256, 257, 0x10001, 0xFFFFFFFF)
+    return laid(whole_order(dice, s)) + [trial_call(dice.pick([0, 1, 3]), Settings(*pair)) for pair in itertools.product(numbers, numbers)]
+
+
+def spoilt_map_trials(dice, s):
+    """Trials on a map with a few bytes replaced: they end with 18 or 16, or go other ways."""
+    bytes_, calls = brute.map_of(s), []
+    for _ in range(8):
+        spoilt = spoilt_bytes(dice, s)
+        calls += [(POKE, rank, byte) for rank, byte in spoilt.items()]
+        calls += laid(any_order(dice, s)) + [trial_call(dice.pick([1, 2, 5, 40]), any_settings(dice))]
+        calls += [(POKE, rank, bytes_[rank]) for rank in spoilt]
+    return calls
+
+
+def other_map_trials(dice, s):
+    """Trials on maps that are no set's: bytes 0 to 3 in any place, but for the start's."""
+    calls = []
+    for _ in range(2):
+        calls += [(POKE, rank, dice.pick([0, 0, 0, 1, 2, 3])) for rank in range(1, grid_of(s))]
+        for _ in range(4):
+            calls += laid(any_order(dice, s)) + [trial_call(dice.pick([1, 3, 9, 30]), any_settings(dice))]
+    return calls
+
+
+def idle_trials(dice, s):
+    """Sets without actions, which make no bid: whatever the start's byte is, with right and wrong orders and settings, and on a map that is too short."""
+    calls = []
+    for byte, lent in itertools.product((0, 1, 3, 4, 255), (1, 0)):
+        calls += [(LEND, lent), (POKE, 0, byte)]
+        for order in (whole_order(dice, s), faulty_order(dice, s)):
+            calls += laid(order[:12]) + [trial_call(dice.pick([0, 1, MAX_ROUNDS]), settings) for settings in (any_settings(dice), refused_settings(dice))]
+    return calls
+
+
+# Trials without an end, answered Share spent, Busy, Held and Finished over 65,535 times, and one with a long order. In the third set and the fourth the last task never bids and
+# would be granted, so that no other gets more than its share.
+ENDLESS = [
+    (crossing(2), [0], 65535, Settings(3, 255)),
+    (crossing(2), [0, 0], 65535, Settings(1, 2)),
+    (Set([1, 1], [[(CLAIM, 0), (RELEASE, 0)]] * 2 + [[(CLAIM, 1), (RELEASE, 1)]]), [0, 1, 1], 33000, Settings(1, 255)),
+    (Set([1, 1, 1], crossing(2).tasks + [[(CLAIM, 2), (RELEASE, 2)]]), [1, 0, 0], 33000, Settings(1, 3)),
+    (users(2, 3, 1), [2, 1], 65535, Settings(255, 255)),
+    (apart([4, 4, 4]), [0, 2, 2] * 85, 400, Settings(2, 9)),
+]
+
+
+def endless_cases():
+    """Each with the rounds at which a number takes one bit more, and with the most."""
+    cases = []
+    for s, order, most, settings in ENDLESS:
+        calls = laid(order) + [trial_call(rounds, settings) for rounds in (255, 256, 257, most)]
+        cases.append(Case(words_of(*s), grid_of(s), plan_length(s), calls))
+    return cases
+
+
+def large_trial_cases(dice):
+    """The longest task, eight tasks, and grids of over 65,000 states, whose last ranks take 16 bits: brought home, and stopped at a byte over 3 near the end."""
+    cases = []
+    for s in (long_tasks([254]), users(8, 8, 1), users(1, 8, 1), apart([254, 254]), apart([12, 70, 70])):
+        late = brute.rank_of(s, lengths_of(s)) - dice.below(2)
+        calls = laid(whole_order(dice, s)) + [trial_call(sum(lengths_of(s)), settings) for settings in (Settings(255, 255), small_settings(dice))]
+        calls += [(POKE, late, 4)] + calls[-2:]
+        cases.append(Case(words_of(*s), grid_of(s), plan_length(s), calls))
+    return cases
+
+
+def refused_trial_cases(dice):
+    """Words that may be refused, with settings and orders that may be too; and unclean sets, before they are cleaned and after."""
+    cases = []
+    for words in dice.mixed(faulty_lists(dice))[:40] + [mutated(dice, words_of(*random_set(dice, 60))) for _ in range(30)]:
+        calls = [trial_call(1, any_settings(dice)), trial_call(0, refused_settings(dice))]
+        cases.append(Case(words, dice.below(12), 0, calls + laid([0, dice.below(9)]) + [trial_call(2, any_settings(dice))]))
+    for _ in range(10):
+        s = unclean_set(dice, 60)
+        calls = laid(whole_order(dice, s)) + [trial_call(4, any_settings(dice))]
+        cases.append(Case(words_of(*s), grid_of(s), 0, calls + [(CLEAN, MAX_CLEAN)] + calls + [(ANALYSE,)] + calls))
+    return cases
+
+
+def trial_cases(dice):
+    """Trials: each kind of the calls above on known sets and on random ones, then those with sets of their own."""
+    known = [crossing(2), crossing(3), ring(3), users(1, 3, 2), users(2, 3, 1), users(8, 4, 1), apart([4, 4, 4]), Set([1], [[], [(CLAIM, 0), (RELEASE, 0)]])]
+    kinds = [(own_map_trials, 60), (ending_trials, 20), (spoilt_map_trials, 50), (other_map_trials, 16), (faulty_order_trials, 20), (length_trials, 2)]
+    kinds += [(choice_trials, 5), (settings_trials, 2)]
+    cases = []
+    for make, count in kinds:
+        for number in range(count):
+            s = known[number] if number < len(known) else shared_set(dice, dice.pick([30, 60, 120]))
+            cases.append(Case(words_of(*s), grid_of(s) + dice.pick([0, 0, 3]), plan_length(s), make(dice, s)))
+    for tasks in (1, 2, 8):
+        s = Set([], [[]] * tasks)
+        cases.append(Case(words_of(*s), 1, 1, idle_trials(dice, s)))
+    return cases + endless_cases() + large_trial_cases(dice) + refused_trial_cases(dice)
+
+
 def all_cases():
     dice, shares = Dice(SEED), Dice(SHARE_SEED)
     cases = named_cases(dice) + dead_cases(dice) + small_cases(dice) + faulty_cases(dice) + large_cases(dice) + stored_cases(dice)
     cases = [with_cleaning(case) for case in cases] + cleaning_cases(dice) + [with_cleaning(case) for case in counted_cases(dice)]
-    return [with_settings(shares, case) for case in cases] + share_cases(shares)
+    return [with_settings(shares, case) for case in cases] + share_cases(shares) + trial_cases(Dice(TRIAL_SEED))
 
 
 def swept_states(tasks, low, high):
@@ -1418,6 +1686,9 @@ def encoded(cases):
             assert call[0] != KEEP or call[1] <= case.plan_length
             assert call[0] != SWEEP or swept_states(*call[1:]) <= MAX_SWEEP
             assert call[0] != CLEAN or call[1] <= MAX_CLEAN
+            assert call[0] != PLACE or call[1] + 8 <= MAX_ORDER
+            assert call[0] != ORDER or call[1] <= MAX_ORDER
+            assert call[0] != TRIAL or call[1] <= MAX_ROUNDS
             words += call
     return word_bytes(words)
 

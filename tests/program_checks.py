@@ -1,5 +1,5 @@
-"""What test_printer.py and test_clean.py share: files that are damaged, and how a program that reads a set from standard input is run on files, in pieces, on streams that
-fail and with arguments. What isn't as it must be ends the test with a line."""
+"""What test_printer.py, test_clean.py and test_trial.py share: files that are damaged, and how a program that reads a set from standard input is run on files, in pieces, on
+streams that fail and with arguments. What isn't as it must be ends the test with a line."""
 
 import os
 import re
@@ -33,16 +33,16 @@ def sized():
 
 
 class Program:
-    """A program by its path and its name."""
+    """A program by its path and its name, and the arguments with which it does its work."""
 
-    def __init__(self, path, name):
-        self.path, self.name = os.path.abspath(path), name
+    def __init__(self, path, name, words=()):
+        self.path, self.name, self.words = os.path.abspath(path), name, words
 
     def expect(self, what, got, wanted):
         if got != wanted:
             sys.exit("test_%s: %s: %.200s .., not %.200s .." % (self.name, what, repr(got), repr(wanted)))
 
-    def said(self, words=(), redirected=""):
+    def said(self, words, redirected=""):
         """What is written to standard output and to standard error, with standard input and output as the shell redirects them."""
         ended = subprocess.run(["sh", "-c", 'exec "$0" "$@" ' + redirected, self.path, *words], stdin=subprocess.DEVNULL, capture_output=True, check=True)
         return ended.stdout, ended.stderr.decode("ascii")
@@ -50,13 +50,13 @@ class Program:
     def files(self, pairs):
         """Each file with what must be written for it."""
         for number, (data, output) in enumerate(pairs):
-            got = subprocess.run([self.path], input=data, capture_output=True, check=True)
-            what = "file %d (%d bytes, %s ..)" % (number, len(data), data[:32].hex())
+            got = subprocess.run([self.path, *self.words], input=data, capture_output=True, check=True)
+            what = "file %d (%d bytes, %s ..) %.60s" % (number, len(data), data[:32].hex(), " ".join(self.words))
             self.expect(what, (got.stdout, got.stderr), (output, b""))
 
     def in_pieces(self, data, output):
         """A file that comes a few bytes at a time is the same file."""
-        running = subprocess.Popen([self.path], stdin=subprocess.PIPE, stdout=subprocess.PIPE)
+        running = subprocess.Popen([self.path, *self.words], stdin=subprocess.PIPE, stdout=subprocess.PIPE)
         for begin in range(0, len(data), 5):
             running.stdin.write(data[begin : begin + 5])
             running.stdin.flush()
@@ -70,15 +70,15 @@ class Program:
             ("no standard input", "<&-", "read standard input: Bad file descriptor"),
             ("no standard output", ">&-", "write standard output: Bad file descriptor"),
         ):
-            self.expect(what, self.said(redirected=redirected), (b"", "%s: can't %s\n" % (self.name, why)))
+            self.expect(what, self.said(self.words, redirected), (b"", "%s: can't %s\n" % (self.name, why)))
         if os.path.exists("/dev/full"):
-            for words in [(), ("--help",), ("--version",)]:
+            for words in [self.words, ("--help",), ("--version",)]:
                 full = (b"", "%s: can't write standard output: No space left on device\n" % self.name)
                 self.expect("a full device", self.said(words, "> /dev/full"), full)
 
-    def arguments(self, usage):
+    def arguments(self, usage, takes="no file name"):
         """--help and --version; anything else is told how the program is used."""
-        told = (b"", "%s: it takes no file name, it reads standard input: %s < SETFILE\n" % (self.name, self.name))
+        told = (b"", "%s: it takes %s, it reads standard input: %s\n" % (self.name, takes, usage.split(" > ")[0]))
         for words in [("a.set",), ("",), ("--hel",), ("--help ",), ("--Help",), ("-h",), ("x" * 5000,), ("--help", "--version")]:
             self.expect("%s %s" % (self.name, " ".join(words)[:20]), self.said(words), told)
         self.expect("--version", self.said(("--version",)), (b"%s %s\n" % (self.name.encode(), version()), ""))

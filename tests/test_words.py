@@ -18,6 +18,7 @@ import clean  # noqa: E402
 import plan  # noqa: E402
 import programs  # noqa: E402
 import set_text  # noqa: E402
+import trial  # noqa: E402
 import words  # noqa: E402
 
 PRINTER = os.path.abspath(sys.argv[1]) if len(sys.argv) > 1 else None
@@ -38,7 +39,7 @@ R_PLAN = """60000000 80000205 80010202 60000001 80000103 80010105 60000001 80000
             70000000 80000304 80010103 9000001D A000001F 50000011"""
 
 # The limits of a set, and how many refusals there are.
-DEVICES, TASKS, ACTIONS, WORDS, REFUSALS = 16, 8, 255, 4096, 26
+DEVICES, TASKS, ACTIONS, WORDS, REFUSALS = 16, 8, 255, 4096, 27
 
 Ended = namedtuple("Ended", "status output said")
 
@@ -90,16 +91,16 @@ class Case(unittest.TestCase):
         return Ended(ended.returncode, ended.stdout, ended.stderr.decode())
 
     def stand_in(self, output, ending="exit 0"):
-        """A program that keeps its input and prints this."""
+        """A program that keeps its input and its arguments, and prints this."""
         self.file(output, "output")
-        path = self.file('#!/bin/sh\ncd "%s"\ncat > input\ncat output\n%s\n' % (self.folder, ending), "stand_in")
+        path = self.file('#!/bin/sh\ncd "%s"\ncat > input\necho "$@" >> arguments\ncat output\n%s\n' % (self.folder, ending), "stand_in")
         os.chmod(path, 0o755)
         return path
 
     def assert_complaint(self, ended, *parts, output=b""):
         """Status 2, and one line on standard error; on standard output nothing, or only what the program printed."""
         self.assertEqual((ended.status, ended.output), (2, output), ended.said)
-        self.assertRegex(ended.said, r"\A(words|plan|clean)\.py: .+\n\Z")
+        self.assertRegex(ended.said, r"\A(words|plan|clean|trial)\.py: .+\n\Z")
         for part in parts:
             self.assertIn(part, ended.said)
 
@@ -559,6 +560,95 @@ class Cleanings(Case):
         with mock.patch.object(programs, "built", return_value=missing):
             self.assert_complaint(self.here(clean, EXAMPLE_A), "No such file or directory ('rt check clean' builds it)")
             self.assertNotIn("builds it", self.here(clean, "--cleaner", missing + "er", EXAMPLE_A).said)
+
+
+class Trials(Case):
+    """trial.py over programs that print what a test wants."""
+
+    ROWS = "   0        1        1         0         0            0\n   1        4        3  16711425         1            2\n"
+    TABLE = "order of 2, rounds 5, share 1, window 4\n%s\n%sbids answered Finished: 4\nbids made: 9, the rounds ran out\n" % (trial.COLUMNS, ROWS)
+
+    def tried(self, output, *arguments, ending="exit 0"):
+        return self.here(trial, "--program", self.stand_in(output, ending), *arguments)
+
+    def arguments(self):
+        return self.kept("arguments").decode().splitlines()
+
+    def test_one_table(self):
+        for table in (self.TABLE, self.TABLE.replace("the rounds ran out", "every task is finished")):
+            self.assertEqual(self.tried(table, EXAMPLE_A, "0,1", "5", "1/4"), Ended(0, table.encode(), ""))
+        self.assertEqual((self.kept("input"), self.arguments()), (bytes_in(A), ["0,1 5 1 4"] * 2))
+
+    def test_several_tables(self):
+        """Each pair is tried on the set by itself; two tables stand in a row, no line ends with a blank."""
+        lines = self.TABLE.splitlines()
+        beside = "".join("%-55s   %s\n" % (line, line) for line in lines)
+        for pairs, output in ((["1/4", "2/5"], beside), (["1/4", "2/5", "255/1"], beside + "\n" + self.TABLE), (["1/4"] * 4, beside + "\n" + beside)):
+            self.assertEqual(self.tried(self.TABLE, EXAMPLE_A, "1", "9", *pairs), Ended(0, output.encode(), ""))
+            self.assertEqual(self.kept("input"), bytes_in(A))
+        self.assertEqual(self.arguments()[:5], ["1 9 1 4", "1 9 2 5", "1 9 1 4", "1 9 2 5", "1 9 255 1"])
+
+    def test_as_a_program(self):
+        program = self.stand_in(self.TABLE)
+        self.assertEqual(self.program(trial, "--program", program, "--bytes", "-", "0,1", "5", "1/4", data=bytes_in(A)), Ended(0, self.TABLE.encode(), ""))
+        self.assertEqual(self.kept("input"), bytes_in(A))
+        for redirect in (">&-", "> /dev/full"):
+            self.assert_complaint(self.program(trial, "--program", program, EXAMPLE_A, "0,1", "5", "1/4", redirect=redirect), "standard output: ")
+
+    def test_refusals(self):
+        """In the place of every table, behind what they are about; further pairs aren't tried."""
+        path = self.file("# one\nTASK\n\n60000000\n")
+        order = ",".join(["7"] * 255 + ["9"])
+        for refusal, asked, about in (
+            ("refused 4 at 1", "0", "%s:4: %s" % (path, programs.sentence(4))),
+            ("refused 26 at 0", "0", "0/4: %s" % programs.sentence(26)),
+            ("refused 27 at 1", "0,7,8", "ORDER: place 1, counted from 0, names task 7, which the set doesn't have"),
+            ("refused 27 at 0", "", "ORDER: it names no task"),
+            ("refused 27 at 0", "255", "ORDER: place 0, counted from 0, names task 255, which the set doesn't have"),
+            ("refused 27 at 255", order, "ORDER: it names more than 255 tasks"),
+        ):
+            refused = self.tried(refusal + "\n", path, asked, "5", "0/4", "1/4")
+            self.assertEqual(refused, Ended(1, (refusal + "\n").encode(), "trial.py: %s\n" % about))
+            self.assertEqual(self.arguments()[-1], asked + " 5 0 4")
+        self.assertEqual(len(self.arguments()), 6)
+
+    def test_warning_of_a_wrong_count(self):
+        warned = self.tried("refused 6 at 1\n", self.file("TASK\n50000002\n"), "0", "1", "1/1")
+        self.assertEqual((warned.status, len(warned.said.splitlines())), (1, 2))
+        self.assertIn(":2: warning: END counts 2 words", warned.said)
+
+    def test_long_orders(self):
+        """Of an order one place more is passed on than there may be."""
+        self.tried("refused 27 at 255\n", EXAMPLE_A, ",".join(["1"] * 9000), "5", "1/4")
+        self.assertEqual(self.arguments(), [",".join(["1"] * 256) + " 5 1 4"])
+
+    def test_outputs_that_are_neither(self):
+        lines = self.TABLE.splitlines(True)
+        without = ["".join(lines[:i] + lines[i + 1 :]) for i in (0, 1, 4, 5)]
+        others = [self.TABLE[:-1], self.TABLE + "\n", "\n" + self.TABLE, self.TABLE * 2, self.TABLE.replace(self.ROWS, ""), self.TABLE.replace(self.ROWS, self.ROWS * 5), self.TABLE.replace("16711425", "-1")]
+        for output in without + others + ["", "refused 27 at 1", "refused 27 at 1\n" + self.TABLE, self.TABLE.replace("ran out", "ran")]:
+            self.assert_complaint(self.tried(output, EXAMPLE_A, "0,1", "5", "1/4"), "a.words: what the program printed is neither a whole table nor a refusal")
+
+    def test_programs_that_fail(self):
+        for ending, status in (("exit 3", 3), ("kill -9 $$", -signal.SIGKILL)):
+            self.assert_complaint(self.tried(self.TABLE, EXAMPLE_A, "0,1", "5", "1/4", ending=ending), "the program ended with status %d" % status)
+        missing = os.path.join(self.folder, "run_trial")
+        with mock.patch.object(programs, "built", return_value=missing):
+            self.assert_complaint(self.here(trial, EXAMPLE_A, "0", "1", "1/1"), "No such file or directory ('rt check run_trial' builds it)")
+
+    def test_arguments_that_cannot_be_taken(self):
+        """The program isn't run."""
+        for asked, part in (
+            *(([order, "1", "1/1"], "'%s': ORDER is task numbers" % order) for order in (",", "0,", ",0", "0;1", "0 1", "x", "256", "-1", "+1", "\u0660", "0x1")),
+            *((["0", rounds, "1/1"], "'%s': ROUNDS is a number from 0 to 65535" % rounds) for rounds in ("", "x", "1 2", "65536", "1.5", "\u0661", "1\n")),
+            *((["0", "1", pair], "settings are a share and a window") for pair in ("", "1", "12", "1/", "/1", "1/2/3", "x/1", "1/4294967296", "1,2", "1/1 ")),
+            (["0", "1", "1/1", "2"], "'2': settings are a share and a window"),
+            (["0", "1"], "; --help says how it is used"),
+            (["--x", "1", "1/1"], "; --help says how it is used"),
+        ):
+            self.assert_complaint(self.tried(self.TABLE, EXAMPLE_A, *asked), part.replace("\n", "\\n"))
+        self.assert_complaint(self.tried(self.TABLE, self.file("TASK\nEND 1\n"), "0", "1", "1/1"), "x.words:2: '1' can't stand behind END")
+        self.assertFalse(os.path.exists(os.path.join(self.folder, "input")))
 
 
 @unittest.skipUnless(PRINTER, "no printer was named")

@@ -1,4 +1,4 @@
-"""What plan.py and clean.py share: a set in text or bytes, a program that is run on it, and a refusal told in a sentence."""
+"""What plan.py, clean.py and trial.py share: a set in text or bytes, a program that is run on it, and a refusal told in a sentence."""
 import os
 import re
 import subprocess
@@ -34,10 +34,10 @@ def set_in(name, in_bytes):
     return text, bytes_of(text.words)
 
 
-def run(program, data):
-    """What a program writes for these bytes, and its status; what it writes on standard error stays there."""
+def run(program, data, words=()):
+    """What a program that is given these arguments writes for these bytes, and its status; what it writes on standard error stays there."""
     try:
-        ended = subprocess.run([os.path.abspath(program)], input=data, stdout=subprocess.PIPE)
+        ended = subprocess.run([os.path.abspath(program), *words], input=data, stdout=subprocess.PIPE)
     except OSError as error:
         name = os.path.basename(program)
         hint = " ('rt check %s' builds it)" % name if program == built(name) else ""

@@ -1,6 +1,7 @@
 /* serve SETFILE [SHARE WINDOW]: reads a set (four bytes a word, lowest first), analyses it, serves rounds of bids until every task is finished, starts
- * anew and prints the route from the start. Each bid brings SHARE and WINDOW; without them both are 255, and no share is ever spent. The same program
- * in Rust is rust/examples/serve.rs, in Python python/serve.py; all print the same.
+ * anew and prints the route from the start. Each bid brings SHARE and WINDOW; without them both are 255, and no share is ever spent. At last it tries
+ * these settings and others for a turn in which task 0 bids twice as often. The same program in Rust is rust/examples/serve.rs, in Python
+ * python/serve.py; all print the same.
  *
  * Exit status: 0; 1 if a call was refused, with the refusal as the last line; 2 if the arguments are wrong, the library isn't of the header's version,
  * the file can't be read, standard output not written, or memory is out. */
@@ -135,6 +136,21 @@ static void print_route(const service *it) {
     free(route);
 }
 
+/* A trial of these settings: task 0, then every task in turn, for as many rounds as there may be, since it stops once every task is finished. */
+static void print_trial(const service *it, size_t tasks, uint32_t share, uint32_t window) {
+    uint8_t order[1 + ARBITER_MAX_TASKS] = {0};
+    for (size_t task = 0; task < tasks; task++) order[1 + task] = (uint8_t)task;
+    arbiter_trial_result trial = arbiter_trial(it->set, it->set_len, it->map, it->map_len, order, 1 + tasks, UINT16_MAX, share, window);
+    size_t bids = value_of(trial.answer);
+    printf("trial with share %u, window %u: %zu bids, %llu of them answered finished\n", (unsigned)share, (unsigned)window, bids,
+           (unsigned long long)trial.finished);
+    for (size_t task = 0; task < tasks; task++) {
+        arbiter_tally row = trial.rows[task];
+        printf("trial, task %zu: %u granted, %u busy, %u held, %u share spent\n", task, (unsigned)row.granted, (unsigned)row.busy, (unsigned)row.held,
+               (unsigned)row.share_spent);
+    }
+}
+
 int main(int arguments, char **argument) {
     if (arguments != 2 && arguments != 4) stop("usage: serve SETFILE [SHARE WINDOW]");
     uint32_t share = arguments == 4 ? number_in(argument[2], "SHARE isn't a number: 1 to 255") : ARBITER_MAX_SETTING;
@@ -164,6 +180,9 @@ int main(int arguments, char **argument) {
     value_of(arbiter_again(&it.record, set, set_len));
     printf("again: every task is at its start\n");
     print_route(&it);
+
+    print_trial(&it, tasks, share, window);
+    print_trial(&it, tasks, 2, 2 * (uint32_t)tasks); /* a claim and a release each, and room for them in the window */
 
     free(plan);
     free(map);

@@ -46,6 +46,14 @@ int main() {
     check(no_slice.refusal == ARBITER_CLEAN_TOO_SHORT && no_slice.value == clean.size(), "clean without a slice");
     check(arbiter_clean(unclaimed.data(), unclaimed.size(), clean.data(), clean.size()).kind == ARBITER_CLEANED && clean == set, "clean");
 
+    const std::vector<uint8_t> no_order, order(1, 0);
+    arbiter_trial_result no_tasks = arbiter_trial(set.data(), set.size(), map.data(), map.size(), ARBITER_LEND(no_order.data()), 0, 1, 1, 1);
+    check(no_tasks.answer.refusal == ARBITER_BAD_ORDER && no_tasks.answer.value == 0, "a trial without an order");
+    arbiter_trial_result no_states = arbiter_trial(set.data(), set.size(), ARBITER_LEND(no_map_to_read.data()), 0, order.data(), order.size(), 1, 1, 1);
+    check(no_states.answer.refusal == ARBITER_MAP_TOO_SHORT && no_states.answer.value == map.size(), "a trial without a map");
+    arbiter_trial_result trial = arbiter_trial(set.data(), set.size(), map.data(), map.size(), order.data(), order.size(), 9, 1, 1);
+    check(trial.answer.kind == ARBITER_TRIED && trial.answer.value == 0, "a trial of a task without actions");
+
     check(ARBITER_LEND(no_plan.data()) != nullptr && ARBITER_LEND(map.data()) == map.data(), "the address that is lent");
     return 0;
 }

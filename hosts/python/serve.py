@@ -5,10 +5,10 @@
 import ctypes
 import os
 import sys
-from ctypes import POINTER, c_char_p, c_size_t, c_uint8, c_uint32, c_uint64
+from ctypes import POINTER, c_char_p, c_size_t, c_uint8, c_uint16, c_uint32, c_uint64
 
 # The numbers of include/arbiter.h that are used here.
-VERSION = 50000
+VERSION = 50100
 MAX_WORDS = 4096
 MAX_SETTING = 255
 NOT_ANALYSED = 0xFF
@@ -33,6 +33,14 @@ class State(ctypes.Structure):
     _fields_ = [("positions", c_uint8 * 8)]
 
 
+class Tally(ctypes.Structure):
+    _fields_ = [("granted", c_uint32), ("busy", c_uint32), ("held", c_uint32), ("share_spent", c_uint32)]
+
+
+class Trial(ctypes.Structure):
+    _fields_ = [("answer", Answer), ("rows", Tally * 8), ("finished", c_uint64)]
+
+
 WORDS, BYTES = [POINTER(c_uint32), c_size_t], [POINTER(c_uint8), c_size_t]  # a slice is its address and its number of elements
 CALLS = {
     "arbiter_version": ([], c_uint32),
@@ -44,6 +52,7 @@ CALLS = {
     "arbiter_route": ([Record] + WORDS + BYTES + BYTES, Answer),
     "arbiter_locate": ([State] + WORDS + [c_size_t], Answer),  # for hosts that keep plans, which this one doesn't
     "arbiter_clean": (WORDS + WORDS, Answer),  # for hosts that keep sets
+    "arbiter_trial": (WORDS + BYTES + BYTES + [c_uint16, c_uint32, c_uint32], Trial),
     "arbiter_refusal_text": ([c_uint32], c_char_p),
 }
 
@@ -127,6 +136,16 @@ def said(answer):
     return {GRANTED: "granted", FINISHED: "finished", SHARE_SPENT: "waits, since its share is spent"}[answer.kind]
 
 
+def print_trial(library, lent_set, lent_map, tasks, share, window):
+    """A trial of these settings: task 0, then every task in turn, for as many rounds as there may be, since it stops once every task is finished. ctypes
+    would cut a longer number of rounds to 16 bits."""
+    order = [0, *range(tasks)]
+    trial = library.arbiter_trial(*lent_set, *lent_map, lent(c_uint8, order), len(order), 65535, share, window)
+    print(f"trial with share {share}, window {window}: {value_of(library, trial.answer)} bids, {trial.finished} of them answered finished")
+    for task, row in enumerate(trial.rows[:tasks]):
+        print(f"trial, task {task}: {row.granted} granted, {row.busy} busy, {row.held} held, {row.share_spent} share spent")
+
+
 def serve(library, path, share, window):
     words = words_in(library, path)
     set_words = lent(c_uint32, words)
@@ -157,6 +176,9 @@ def serve(library, path, share, window):
     route = lent(c_uint8, [0] * len(words))
     steps = value_of(library, library.arbiter_route(library.arbiter_fresh(), set_words, len(words), state_bytes, states, route, len(words)))
     print("route:", *route[:steps])
+
+    for settings in ((share, window), (2, 2 * tasks)):  # the others: a claim and a release each, and room for them in the window
+        print_trial(library, (set_words, len(words)), (state_bytes, states), tasks, *settings)
 
 
 def main():

@@ -3,13 +3,14 @@ ghost use mathlib.Core.Path.{_≡_};
 ghost use mathlib.Core.List.{List};
 ghost use Prim.Native.Nat.{ℕ};
 ghost use Rattle.model.specs.Read.{read};
-ghost use Rattle.model.specs.Told.{tellReading, tellAnalysis, tellRoute, tellBid, tellAgain, tellLocation, tellCleaned};
+ghost use Rattle.model.specs.Told.{tellReading, tellAnalysis, tellRoute, tellBid, tellAgain, tellLocation, tellCleaned, tellMade};
 ghost use Rattle.reader.specs.Answer.{answer};
 ghost use Rattle.analysis.specs.Says as analysis-says;
 ghost use Rattle.broker.specs.Says.{bidOf, againOf};
 ghost use Rattle.route.specs.Says as route-says;
 ghost use Rattle.plan_reader.specs.Says as plan-says;
 ghost use Rattle.cleaner.specs.Says as clean-says;
+ghost use Rattle.trial.specs.Says as trial-says;
 ghost use Rattle.arbiter.specs.Told.{structOf, analysisOf};
 use analysis::Outcome;
 use broker::AgainAnswer;
@@ -19,10 +20,13 @@ use plan_reader::Located;
 use reader::Reading;
 use reader::Verdict;
 use route::RouteAnswer;
+use trial::Tally;
+use trial::TrialAnswer;
+use trial::TrialResult;
 
 // The kinds of an answer. A zeroed answer is a refusal, so a host that asked nothing is granted nothing. The value is a refusal's place, the grid of a set that is
 // read, the number of plan words, the number of a route's steps, the busy device, the rank of a state held back from, the index
-// of the first word of a box, or the number of a cleaned set's words; the other kinds have none.
+// of the first word of a box, the number of a cleaned set's words, or the number of a trial's bids; the other kinds have none.
 pub const REFUSED: u32 = 0;
 
 pub const ACCEPTED: u32 = 1;
@@ -51,6 +55,8 @@ pub const CLEANED: u32 = 12;
 
 pub const SHARE_SPENT: u32 = 13;
 
+pub const TRIED: u32 = 14;
+
 // Sixteen bytes without a gap: the kind; the refusal's number, 0 without one; the value, 0 without one.
 #[repr(C)]
 pub struct Answer {
@@ -66,6 +72,15 @@ pub struct Analysis {
     pub answer: Answer,
     pub quotient: u32,
     pub remainder: u32,
+}
+
+// What a trial answers: a hundred and fifty-two bytes without a gap. Beside the answer stand a row for each task and the bids answered Finished, all 0 in a refused
+// one.
+#[repr(C)]
+pub struct Trial {
+    pub answer: Answer,
+    pub rows: [Tally; model::MAX_TASKS],
+    pub finished: u64,
 }
 
 fn plain(kind: u32) -> Answer
@@ -184,5 +199,27 @@ pub(crate) fn of_cleaned(answer: CleanAnswer) -> Answer
     match answer {
         CleanAnswer::Cleaned { words } => valued(CLEANED, words),
         CleanAnswer::Refused { number, place } => refuse(number, place),
+    }
+}
+
+fn of_trial_answer(answer: TrialAnswer) -> Answer
+    ensures { λ r. ⌜ r ≡ structOf (tellMade (trial-says.answerOf answer)) ⌝ }
+{
+    match answer {
+        TrialAnswer::Tried { made } => valued(TRIED, made as usize),
+        TrialAnswer::Refused { number, place } => refuse(number, place),
+    }
+}
+
+pub(crate) fn of_trial(result: TrialResult) -> Trial
+    ensures { λ r. ⌜ r ≡ record { answer = structOf (tellMade (trial-says.answerOf (result .answer))); rows = result .rows; finished = result .finished } ⌝ }
+{
+    let answer = result.answer;
+    let rows = result.rows;
+    let told = of_trial_answer(answer);
+    Trial {
+        answer: told,
+        rows: rows,
+        finished: result.finished,
     }
 }

@@ -10,11 +10,13 @@ ghost use Rattle.model.specs.Broker.{bid, again};
 ghost use Rattle.model.specs.Route.{route};
 ghost use Rattle.model.specs.StoredPlan.{locate};
 ghost use Rattle.model.specs.Clean as model-clean;
-ghost use Rattle.model.specs.Told.{VERSION, tellReading, tellBid, tellAgain, tellLocation};
+ghost use Rattle.model.specs.Trial as model-trial;
+ghost use Rattle.model.specs.Told.{VERSION, tellReading, tellBid, tellAgain, tellLocation, tellTrial};
 ghost use Rattle.records.specs.Says.{recordOf};
-ghost use Rattle.arbiter.specs.Told.{structOf, ToldAnalysis, ToldServed, ToldRoute, ToldCleaned};
+ghost use Rattle.arbiter.specs.Told.{structOf, trialStruct, ToldAnalysis, ToldServed, ToldRoute, ToldCleaned};
 use answers::Analysis;
 use answers::Answer;
+use answers::Trial;
 use broker::Settings;
 use records::Record;
 
@@ -107,4 +109,24 @@ pub extern "C" fn arbiter_clean(set: &[u32], clean: &mut [u32]) -> Answer
     ensures { λ r. ⌜ ToldCleaned r (now (clean .exit)) (model-clean.clean (now (set .entry)) (now (clean .entry))) ⌝ }
 {
     answers::of_cleaned(cleaner::clean(set, clean))
+}
+
+// A trial of the settings share and window: the order bids so many rounds on a fresh record, or until every task is finished. Nothing that is lent changes.
+#[no_mangle]
+pub extern "C" fn arbiter_trial(
+    set: &[u32],
+    map: &[u8],
+    order: &[u8],
+    rounds: u16,
+    share: u32,
+    window: u32,
+) -> Trial
+    ensures { λ r. ⌜ r ≡ trialStruct (tellTrial
+        (model-trial.trial (now (set .entry)) (now (map .entry)) (now (order .entry)) rounds (record { share = share; window = window }))) ⌝ }
+{
+    let settings = Settings {
+        share: share,
+        window: window,
+    };
+    answers::of_trial(trial::trial(set, map, order, rounds, settings))
 }

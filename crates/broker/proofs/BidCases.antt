@@ -25,16 +25,17 @@ use Rattle.model.proofs.ReadExact.{read-sound}
 use Rattle.records.specs.Ranked.{Ranked}
 use Rattle.records.proofs.Placed.{map-short, map-fits, not-placed, is-placed}
 
-module _ (s : Set) (m : List ℕ) (c : Settings) (r : Record) (t : ℕ) where
-  -- the tests by which the first answers are had
-  not-settled : (isSetting (c .share) && isSetting (c .window)) ≡ false → settled c ≡ refused 26 0
+-- the tests by which 26 is had
+module _ (c : Settings) where
+  pub not-settled : (isSetting (c .share) && isSetting (c .window)) ≡ false → settled c ≡ refused 26 0
   unfolding settled
   not-settled e = rw e
 
-  is-settled : (isSetting (c .share) && isSetting (c .window)) ≡ true → settled c ≡ given c
+  pub is-settled : (isSetting (c .share) && isSetting (c .window)) ≡ true → settled c ≡ given c
   unfolding settled
   is-settled e = rw e
 
+module _ (s : Set) (m : List ℕ) (c : Settings) (r : Record) (t : ℕ) where
   pub short : ltb (length m) (size (lengthsOf s)) ≡ true → (g : ℕ) → g ≡ size (lengthsOf s) → refused 13 g ≡ bidAnswer s m c r t
   unfolding bidAnswer _then_
   short e g is = rw (map-short s m e, is)
@@ -42,26 +43,26 @@ module _ (s : Set) (m : List ℕ) (c : Settings) (r : Record) (t : ℕ) where
   module _ (room : ltb (length m) (size (lengthsOf s)) ≡ false) where
     pub bad-setting : (isSetting (c .share) && isSetting (c .window)) ≡ false → refused 26 0 ≡ bidAnswer s m c r t
     unfolding bidAnswer _then_
-    bad-setting e = rw (map-fits s m room, not-settled e)
+    bad-setting e = rw (map-fits s m room, not-settled c e)
 
     module _ (allowed : (isSetting (c .share) && isSetting (c .window)) ≡ true) where
       pub bad-record : unfit s r ≡ true → refused 16 0 ≡ bidAnswer s m c r t
       unfolding bidAnswer _then_
-      bad-record e = rw (map-fits s m room, is-settled allowed, not-placed s r e)
+      bad-record e = rw (map-fits s m room, is-settled c allowed, not-placed s r e)
 
   module _ (allowed : (isSetting (c .share) && isSetting (c .window)) ≡ true) (k : ℕ) (f : Ranked s m r k) where
     pub not-open : (at m k ≡ 0 → ⊥) → refused 16 0 ≡ bidAnswer s m c r t
     unfolding bidAnswer _then_
-    not-open h = rw (map-fits s m (f .room), is-settled allowed, is-placed s r (f .fits), ← f .ranked, ne-eqb _ _ h)
+    not-open h = rw (map-fits s m (f .room), is-settled c allowed, is-placed s r (f .fits), ← f .ranked, ne-eqb _ _ h)
 
     module _ (opens : at m k ≡ 0) where
       pub all-used : c .window ≤ sum (r .counts) → refused 16 0 ≡ bidAnswer s m c r t
       unfolding bidAnswer _then_
-      all-used h = rw (map-fits s m (f .room), is-settled allowed, is-placed s r (f .fits), ← f .ranked, eq-eqb _ _ opens, le-leb _ _ h)
+      all-used h = rw (map-fits s m (f .room), is-settled c allowed, is-placed s r (f .fits), ← f .ranked, eq-eqb _ _ opens, le-leb _ _ h)
 
       pub shared : sum (r .counts) < c .window → sharedAnswer s m c r (stateIn s r) t ≡ bidAnswer s m c r t
       unfolding bidAnswer _then_
-      shared h = rw (map-fits s m (f .room), is-settled allowed, is-placed s r (f .fits), ← f .ranked, eq-eqb _ _ opens, lt-leb _ _ h)
+      shared h = rw (map-fits s m (f .room), is-settled c allowed, is-placed s r (f .fits), ← f .ranked, eq-eqb _ _ opens, lt-leb _ _ h)
 
 -- a task that would be granted is one of the set's, with an action left
 pub would-left : (s : Set) → WellFormed s → (m : List ℕ) (r : Record) (t : ℕ) → wouldBeGranted s m (stateIn s r) t ≡ true
@@ -74,12 +75,17 @@ would-left s w m r t e =
     (omega (arith, w .tasks), omega (arith, List·getD-map length (s .tasks) t [], w .each-task t l .actions))
 
 -- and one that is granted has a count that can rise
+pub granted-rises : (s : Set) → WellFormed s → (m : List ℕ) (c : Settings) (r : Record) (t : ℕ) → isGranted (bidAnswer s m c r t) ≡ true
+    → (t < 8) × (at (r .positions) t < 255) × (at (r .counts) t < 255)
+granted-rises s w m c r t g =
+    let tells = granted-tells s m c r t g in
+    let l = would-left s w m r t (tells .would) in
+    (l .0, l .1, omega (arith, at-sum (r .counts) t, leb-false (c .window) (sum (r .counts)) (tells .within), window-bounds c (tells .settings) .1))
+
+-- on the words lent
 pub granted-left : (words m : List ℕ) (c : Settings) (r : Record) (t : ℕ) → (read words then λ s. bidAnswer s m c r t) ≡ given granted
     → (t < 8) × (at (r .positions) t < 255) × (at (r .counts) t < 255)
 unfolding isGranted
 granted-left words m c r t g =
     let q = then-given (λ s. bidAnswer s m c r t) (read words) granted .0 g in
-    let s = q .0 in
-    let tells = granted-tells s m c r t (ap isGranted (q .2)) in
-    let l = would-left s (read-sound words s (q .1) .1) m r t (tells .would) in
-    (l .0, l .1, omega (arith, at-sum (r .counts) t, leb-false (c .window) (sum (r .counts)) (tells .within), window-bounds c (tells .settings) .1))
+    granted-rises (q .0) (read-sound words (q .0) (q .1) .1) m c r t (ap isGranted (q .2))

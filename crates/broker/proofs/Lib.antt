@@ -2,5 +2,6 @@
 pub mod MapCases
 pub mod BidCases
 pub mod Granted
+pub mod Moved
 pub mod AgainCases
 pub mod InPlace

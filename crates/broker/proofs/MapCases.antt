@@ -39,7 +39,7 @@ module _ {words : List ℕ} {shape : Shape} {s : Set} (d : Declares words shape 
         let l : at (lengthsOf s) t ≤ at (stateIn s r) t = omega (arith, length-at d t, position-is d r t task) in
         rw (lt-leb _ _ task-in, le-ltb _ _ l)
 
-    next-is : k + at (shape .weights) t ≡ rank (lengthsOf s) (next (stateIn s r) t)
+    pub next-is : k + at (shape .weights) t ≡ rank (lengthsOf s) (next (stateIn s r) t)
     next-is =
         let e = rank-next (lengthsOf s) (stateIn s r) t (ranked-grid d f .count) (omega (arith, lengths-count d)) in
         omega (arith, f .ranked, weight-at d t task)

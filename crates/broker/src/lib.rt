@@ -4,6 +4,8 @@ mod bids;
 mod by_map;
 mod shares;
 
+pub use bids::answer_at;
+pub use shares::allowed;
 ghost use mathlib.Core.Path.{_≡_};
 ghost use Rattle.model.specs.Broker as model;
 ghost use Rattle.records.specs.Says.{recordOf};

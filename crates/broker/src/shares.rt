@@ -27,7 +27,7 @@ fn is_setting(n: u32) -> bool
 }
 
 // Whether share and window are settings.
-pub(crate) fn allowed(settings: Settings) -> bool
+pub fn allowed(settings: Settings) -> bool
     ensures { λ r. ⌜ r ≡ (isSetting (settings .share) && isSetting (settings .window)) ⌝ }
 {
     is_setting(settings.share) && is_setting(settings.window)

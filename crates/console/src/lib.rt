@@ -9,6 +9,8 @@ use plan_reader::Located;
 pub use states::UNREAD;
 pub use states::positions_up_to;
 pub use states::state_at;
+use trial::Tally;
+use trial::TrialAnswer;
 
 pub fn text(bytes: &[u8]) {
     io::write_all(STDOUT_FILENO, bytes);
@@ -76,4 +78,21 @@ pub fn located(said: Located) {
         Located::Neither => text(b"neither"),
         Located::Refused { number, place } => refusal(number, place),
     }
+}
+
+// What a trial answered, without its rows.
+pub fn tried(said: TrialAnswer) {
+    match said {
+        TrialAnswer::Tried { made } => named(b"tried ", made as usize),
+        TrialAnswer::Refused { number, place } => refusal(number, place),
+    }
+}
+
+// A task's row of a trial.
+pub fn row(row: Tally) {
+    named(b" [", row.granted as usize);
+    named(b" ", row.busy as usize);
+    named(b" ", row.held as usize);
+    named(b" ", row.share_spent as usize);
+    text(b"]");
 }

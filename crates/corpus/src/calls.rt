@@ -8,6 +8,7 @@ use crate::rounds::Bids;
 use crate::rounds::show_rounds;
 use crate::sets;
 use crate::text;
+use crate::trials;
 use broker::ServedBid;
 use broker::Settings;
 use listing::least;
@@ -43,8 +44,17 @@ const ANALYSE: u32 = 13;
 
 const COUNTS: u32 = 14;
 
+const PLACE: u32 = 15;
+
+const ORDER: u32 = 16;
+
+const TRIAL: u32 = 17;
+
 // The longest route slice: one that a line shows whole.
 const MAX_ROUTE: usize = text::ROW;
+
+// A call's number of rounds is taken modulo this.
+const ROUNDS_LIMIT: u32 = 0x1_0000;
 
 // A call: its kind and three values.
 struct Call {
@@ -54,25 +64,35 @@ struct Call {
     c: u32,
 }
 
-// What the calls of a case go on with: how many words the set has, the record, how much of the map is lent, and how much of the plan slice is the stored plan.
+// What the calls of a case go on with: how many words the set has, the record, how much of the map is lent, how much of the plan slice is the stored plan, and how much
+// of its own slice the order is.
 struct Play {
     words: usize,
     rec: Record,
     lent: usize,
     kept: usize,
+    ordered: usize,
 }
 
-pub fn play_calls(set: &mut [u32], words: usize, list: &[u32], map: &mut [u8], plan: &mut [u32]) {
+pub fn play_calls(
+    set: &mut [u32],
+    words: usize,
+    list: &[u32],
+    map: &mut [u8],
+    plan: &mut [u32],
+    order: &mut [u8],
+) {
     let mut play = Play {
         words: words,
         rec: Record::fresh(),
         lent: map.len(),
         kept: plan.len(),
+        ordered: 0,
     };
     let calls = list.len() / CALL_WORDS;
     let mut k = 0;
     while k < calls {
-        play = play_call(set, map, plan, play, call_at(list, k * CALL_WORDS));
+        play = play_call(set, map, plan, order, play, call_at(list, k * CALL_WORDS));
         k += 1;
     }
 }
@@ -88,7 +108,14 @@ fn call_at(list: &[u32], at: usize) -> Call
     }
 }
 
-fn play_call(set: &mut [u32], map: &mut [u8], plan: &mut [u32], play: Play, call: Call) -> Play {
+fn play_call(
+    set: &mut [u32],
+    map: &mut [u8],
+    plan: &mut [u32],
+    order: &mut [u8],
+    play: Play,
+    call: Call,
+) -> Play {
     let kind = call.kind;
     match kind {
         CLEAN => {
@@ -108,8 +135,16 @@ fn play_call(set: &mut [u32], map: &mut [u8], plan: &mut [u32], play: Play, call
             store(plan, call.a as usize, call.b);
             play
         }
+        PLACE => {
+            trials::place(order, call.a, eight_of(call.b, call.c));
+            play
+        }
         LOCATE | SWEEP => {
             ask(plan, play.kept, call);
+            play
+        }
+        TRIAL => {
+            try_settings(set, map, order, play, call);
             play
         }
         _ => answer_call(set, map, play, call),
@@ -141,6 +176,19 @@ fn ask(plan: &[u32], kept: usize, call: Call) {
     questions::locate(&plan[..n], call.a as usize, positions);
 }
 
+// A trial down the order.
+fn try_settings(set: &[u32], map: &[u8], order: &[u8], play: Play, call: Call) {
+    let n = least(play.words, set.len());
+    let lent = least(play.lent, map.len());
+    let ordered = least(play.ordered, order.len());
+    let rounds = (call.a % ROUNDS_LIMIT) as u16;
+    let settings = Settings {
+        share: call.b,
+        window: call.c,
+    };
+    trials::show_trial(&set[..n], &map[..lent], &order[..ordered], rounds, settings);
+}
+
 fn answer_call(set: &[u32], map: &[u8], play: Play, call: Call) -> Play {
     let n = least(play.words, set.len());
     let lent = least(play.lent, map.len());
@@ -152,6 +200,7 @@ fn answer_call(set: &[u32], map: &[u8], play: Play, call: Call) -> Play {
         COUNTS => next.rec = counted(own, call.a, call.b),
         LEND => next.lent = call.a as usize,
         KEEP => next.kept = call.a as usize,
+        ORDER => next.ordered = call.a as usize,
         ROUTE => show_route(&set[..n], &map[..lent], own, call.a as usize),
         _ => next.rec = show_served(&set[..n], &map[..lent], own, call),
     }

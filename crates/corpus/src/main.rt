@@ -8,6 +8,7 @@ mod rounds;
 mod sets;
 mod sums;
 mod text;
+mod trials;
 
 fn main() {
     cases::play_all(input::read_word());

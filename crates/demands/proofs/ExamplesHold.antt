@@ -1,5 +1,6 @@
 -- The examples hold: each by computing the definitions.
 use mathlib.Core.Path.{refl}
+use mathlib.Core.List.{flatten}
 use Rattle.model.specs.Below.{any, lowest, howMany, tabulate, maximum}
 use Rattle.model.specs.Set.{deviceOf, claims, claimed, size}
 use Rattle.model.specs.Read.{lastTask, addAction, heldAfter, note, outOfOrder, fieldAllowed, tooMany, fault, readFrom, readWords, close, readBy, setOf}
@@ -18,11 +19,12 @@ use Rattle.model.specs.Record.{misplaced, miscounted, mapFits, placed}
 use Rattle.model.specs.PerThousand.{permittedStates, unsafeStates}
 use Rattle.model.specs.Analysis.{planFits}
 use Rattle.model.specs.Broker.{bidByte, mapAnswer, isGranted, settled, otherGoes, sharedAnswer, bidAnswer, inWindow, afterCall, afterList}
+use Rattle.model.specs.Trial.{rowWith, isFinished, ordered, tryFrom, trialOn}
 use Rattle.model.specs.Route.{stepFrom, walk, walked, routeFrom, routeSteps, routeFits}
 use Rattle.demands.specs.Examples.{answers, Examples}
 
 pub examples-hold : Examples
-unfolding any tabulate maximum deviceOf size lastTask addAction heldAfter note outOfOrder fieldAllowed tooMany fault readFrom readWords close readBy setOf claims claimed lowest isEnd sum weight rank stateAt heldTo holdsFrom holding unitsHeld permitted inside covered firstBox choose prefixed sidesOf boxesOf boxesOfAll deviceBoxes forbiddenFrom forbidden stepsOnto byte lastBytes bytes steppedOnto mark firstMarks getsBox blockerLow unsafeBox lastUnsafe unsafeBoxes withEnd ranksFrom keep permittedStates unsafeStates sideWords forbiddenWords unsafeWords planWords _then_ ifGiven mapFits planFits misplaced miscounted placed bidByte mapAnswer isGranted settled otherGoes sharedAnswer bidAnswer inWindow afterCall afterList stepFrom walk walked routeFrom routeSteps routeFits cleanFits keptFrom howMany renamed taskWords body actionWord answers
+unfolding any tabulate maximum deviceOf size lastTask addAction heldAfter note outOfOrder fieldAllowed tooMany fault readFrom readWords close readBy setOf claims claimed lowest isEnd sum weight rank stateAt heldTo holdsFrom holding unitsHeld permitted inside covered firstBox choose prefixed sidesOf boxesOf boxesOfAll deviceBoxes forbiddenFrom forbidden stepsOnto byte lastBytes bytes steppedOnto mark firstMarks getsBox blockerLow unsafeBox lastUnsafe unsafeBoxes withEnd ranksFrom keep permittedStates unsafeStates sideWords forbiddenWords unsafeWords planWords _then_ ifGiven mapFits planFits misplaced miscounted placed bidByte mapAnswer isGranted settled otherGoes sharedAnswer bidAnswer inWindow afterCall afterList stepFrom walk walked routeFrom routeSteps routeFits cleanFits keptFrom howMany renamed taskWords body actionWord answers flatten rowWith isFinished ordered tryFrom trialOn
 examples-hold = record {
   a-states = (refl, refl);
   a-answer = refl;
@@ -62,4 +64,20 @@ examples-hold = record {
   t-record = refl;
   t-longer = refl;
   t-together = refl;
+  u-free = refl;
+  u-shared = refl;
+  u-middle = refl;
+  u-turns = refl;
+  u-early = refl;
+  u-none = refl;
+  u-16 = refl;
+  u-18 = refl;
+  u-18-later = refl;
+  u-empty = refl;
+  u-absent = refl;
+  u-long = refl;
+  u-settings = refl;
+  u-short = refl;
+  u-order = refl;
+  u-behind = refl;
 }

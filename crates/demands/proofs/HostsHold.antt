@@ -1,8 +1,9 @@
 -- A host hears what was told.
 use Prim.Native.Nat.{ℕ}
 use mathlib.Core.Path.{_≡_, refl, sym, ap, _∙_}
-use Rattle.model.specs.Answer.{Answer, given, refused, ifGiven}
+use Rattle.model.specs.Answer.{Answer, given, refused, _then_, ifGiven}
 use Rattle.model.specs.Broker.{Bid, granted, finished, share-spent, busy, held, Again, restarted}
+use Rattle.model.specs.Trial.{Tried}
 use Rattle.model.specs.Analysis.{Planned}
 use Rattle.model.specs.StoredPlan.{Location, in-forbidden, in-unsafe, in-neither}
 use Rattle.model.specs.Told.{
@@ -15,6 +16,7 @@ use Rattle.model.specs.Told.{
   tellAgain,
   tellLocation,
   tellCleaned,
+  tellTrial,
   hear,
   bidHeard,
   locationHeard,
@@ -23,6 +25,7 @@ use Rattle.model.specs.Told.{
   hearBid,
   hearAgain,
   hearLocation,
+  hearTrial,
 }
 use Rattle.demands.specs.Hosts.{Hosts}
 
@@ -40,6 +43,11 @@ hears-cleaned : (a : Answer ℕ) → hearNumber (tellCleaned a) ≡ a
 unfolding tell hear
 hears-cleaned (given n) = refl
 hears-cleaned (refused n p) = refl
+
+hears-trial : (a : Answer Tried) → hearTrial (tellTrial a) ≡ a
+unfolding tell ifGiven hear _then_
+hears-trial (given k) = refl
+hears-trial (refused n p) = refl
 
 hears-bid : (a : Answer Bid) → hearBid (tellBid a) ≡ a
 unfolding tell hear bidNumbers bidHeard
@@ -67,9 +75,9 @@ apart : {A T : Type 0} (tells : A → T) (hears : T → A) → ((a : A) → hear
 apart tells hears same a b e = sym (same a) ∙ ap hears e ∙ same b
 
 pub hosts-hold : Hosts
-unfolding tell ifGiven bidNumbers locationNumbers
+unfolding tell ifGiven bidNumbers locationNumbers _then_
 hosts-hold = record {
-  of-refused = λ n p. (refl, refl, refl, refl, refl, refl);
+  of-refused = λ n p. (refl, refl, refl, refl, refl, refl, refl);
   of-planned = λ p. refl;
   of-routed = λ n. refl;
   of-granted = refl;
@@ -81,10 +89,11 @@ hosts-hold = record {
   of-unsafe = λ i. refl;
   of-neither = refl;
   of-spent = refl;
+  of-tried = λ k. refl;
   of-cleaned = λ n. refl;
   of-accepted = λ s. refl;
   of-faulty = λ n p. refl;
-  heard-told = (hears-analysis, hears-route, hears-bid, hears-again, hears-location, hears-cleaned);
+  heard-told = (hears-analysis, hears-route, hears-bid, hears-again, hears-location, hears-cleaned, hears-trial);
   told-apart = (
     apart tellAnalysis hearAnalysis hears-analysis,
     apart tellRoute hearNumber hears-route,
@@ -92,5 +101,6 @@ hosts-hold = record {
     apart tellAgain hearAgain hears-again,
     apart tellLocation hearLocation hears-location,
     apart tellCleaned hearNumber hears-cleaned,
+    apart tellTrial hearTrial hears-trial,
   );
 }

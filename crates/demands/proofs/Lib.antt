@@ -49,6 +49,10 @@ pub mod StoredPlansHold
 pub mod NumberedStates
 pub mod PerThousandHolds
 pub mod FairSharesHold
+pub mod TrialOrders
+pub mod TrialRuns
+pub mod TrialCounts
+pub mod TrialsHold
 pub mod RefusalsHold
 pub mod CleaningHolds
 pub mod HostsHold

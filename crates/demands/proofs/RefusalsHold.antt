@@ -1,13 +1,14 @@
 -- Each call refuses with its listed numbers only: refusals first, so each check keeps to the list by itself.
-use Prim.Native.Nat.{ℕ, _<_, _≤_}
+use Prim.Native.Nat.{ℕ, suc, _<_, _≤_}
 use native.Mathlib.Omega.{arith}
 use native.Mathlib.Nat.{eq-or-lt-of-le}
 use mathlib.Core.Path.{_≡_, refl, sym}
+use mathlib.Core.Logic.{⊎-elim}
 use mathlib.Core.Bool.{Bool, true, false, not, cond, _&&_, _||_}
 use mathlib.Core.List.{List, [], _∷_, _++_, List·Memᴰ, List·Memᴰ·head, List·Memᴰ·tail}
 use lib.ListN.{length}
 use lib.Dec.{eqb, ltb, leb}
-use borrow.Author.Tests.{eqb-true}
+use borrow.Author.Tests.{eqb-true, leb-true}
 use Rattle.model.specs.Answer.{Answer, given, refused, _then_}
 use Rattle.model.specs.Set.{Set, lengthsOf, at, size}
 use Rattle.model.specs.State.{State, unfinished, isEnd, next, rank}
@@ -15,15 +16,17 @@ use Rattle.model.specs.Layout.{encode, present, former}
 use Rattle.model.specs.Read.{readBy, read}
 use Rattle.model.specs.Clean.{cleaned, cleanFits, clean}
 use Rattle.model.specs.Plan.{planOf, planWords}
-use Rattle.model.specs.Record.{Record, unfit, mapFits, placed}
+use Rattle.model.specs.Record.{Record, fresh, stateIn, unfit, mapFits, placed}
 use Rattle.model.specs.Analysis.{planFits, withRoom, analyse}
 use Rattle.model.specs.Broker.{Settings, bidByte, mapAnswer, wouldBeGranted, isSetting, settled, shareLeft, otherGoes, sharedAnswer, usedUp, bidAnswer, bid, againAnswer, again}
+use Rattle.model.specs.Trial.{Tried, untried, counted, roundsOf, tryFrom, trialOn, trial}
 use Rattle.model.specs.Route.{stepsFrom, walked, routeFrom, routeSteps, routeFits, route}
 use Rattle.model.specs.StoredPlan.{locate}
-use Rattle.model.proofs.Bools.{by-cases, true-not-false, or-true}
+use Rattle.model.proofs.Bools.{by-bool, by-cases, true-not-false, or-true}
 use Rattle.model.proofs.Answers.{then-refused}
 use Rattle.model.proofs.ReadNumbers.{read-number}
-use Rattle.demands.specs.Refusals.{ofFormerSet, ofSet, ofAnalysis, ofBid, ofAgain, ofRoute, ofQuestion, ofCleaner, Only, Refusals}
+use Rattle.demands.specs.Refusals.{ofFormerSet, ofSet, ofAnalysis, ofBid, ofTrial, ofAgain, ofRoute, ofQuestion, ofCleaner, Only, Refusals}
+use Rattle.demands.proofs.TrialOrders.{faulty-order, right-order, right-or-faulty, rounds-tasks}
 use Rattle.demands.proofs.PlanFaultsHold.{plan-faults-hold}
 
 -- a number that a list has
@@ -104,36 +107,67 @@ analysis-only words map plan =
     only-then ofAnalysis (planFits s plan) _
     (only-cond ofAnalysis (ltb (length plan) (length (planWords (planOf s)))) _ _ (listed 14 ofAnalysis refl) tt) λ ws. tt
 
-byte-only : (b r d : ℕ) → Only ofBid (bidByte b r d)
-unfolding bidByte Only
-byte-only b r d =
-    let by = only-cond ofBid in
-    by (ltb 3 b) _ _ (listed 18 ofBid refl) (by (eqb b 1) _ _ tt (by (eqb b 2 || eqb b 3) _ _ tt tt))
+-- a bid, by a list that has 13, 16, 18 and 26, and 17 where it names no task
+module _ (numbers : List ℕ) (has-13 : List·Memᴰ 13 numbers) (has-16 : List·Memᴰ 16 numbers) (has-18 : List·Memᴰ 18 numbers) (has-26 : List·Memᴰ 26 numbers) where
+  byte-only : (b r d : ℕ) → Only numbers (bidByte b r d)
+  unfolding bidByte Only
+  byte-only b r d =
+      let by = only-cond numbers in
+      by (ltb 3 b) _ _ has-18 (by (eqb b 1) _ _ tt (by (eqb b 2 || eqb b 3) _ _ tt tt))
 
-settled-only : (c : Settings) → Only ofBid (settled c)
-unfolding settled Only
-settled-only c = only-cond ofBid (isSetting (c .share) && isSetting (c .window)) _ _ tt (listed 26 ofBid refl)
+  settled-only : (c : Settings) → Only numbers (settled c)
+  unfolding settled Only
+  settled-only c = only-cond numbers (isSetting (c .share) && isSetting (c .window)) _ _ tt has-26
 
--- by set and map alone, and with a share that may be spent, which is no refusal
-map-only : (s : Set) (m : List ℕ) (x : State) (t : ℕ) → Only ofBid (mapAnswer s m x t)
-unfolding mapAnswer Only
-map-only s m x t =
-    let by = only-cond ofBid in
-    by (leb (length (s .tasks)) t) _ _ (listed 17 ofBid refl)
-    (by (not (unfinished (lengthsOf s) x t)) _ _ tt
-    (byte-only _ (rank (lengthsOf s) (next x t)) _))
+  module _ (s : Set) (t : ℕ) (no-task : length (s .tasks) ≤ t → List·Memᴰ 17 numbers) where
+    -- by set and map alone, and with a share that may be spent, which is no refusal
+    map-only : (m : List ℕ) (x : State) → Only numbers (mapAnswer s m x t)
+    unfolding mapAnswer Only
+    map-only m x =
+        by-bool (leb (length (s .tasks)) t)
+        (λ e. rw e (no-task (leb-true (length (s .tasks)) t e)))
+        (λ e. rw e (only-cond numbers (not (unfinished (lengthsOf s) x t)) _ _ tt (byte-only _ (rank (lengthsOf s) (next x t)) _)))
+
+    answer-only : (m : List ℕ) (c : Settings) (r : Record) → Only numbers (bidAnswer s m c r t)
+    unfolding bidAnswer sharedAnswer Only
+    answer-only m c r =
+        let by = only-cond numbers in
+        only-then numbers (mapFits s m) _ (fits-only numbers has-13 s m) λ grid.
+        only-then numbers (settled c) _ (settled-only c) λ settings.
+        only-then numbers (placed s r) _ (placed-only numbers has-16 s r) λ x.
+        by (not (eqb (at m (rank (lengthsOf s) x)) 0)) _ _ has-16
+        (by (usedUp (c .window) (r .counts)) _ _ has-16
+        (by (wouldBeGranted s m x t && (not (shareLeft c r t) && otherGoes s m c r x t)) _ _ tt (map-only m x)))
 
 bid-only : (words map : List ℕ) (c : Settings) (r : Record) (t : ℕ) → Only ofBid (bid words map c r t .answer)
-unfolding bidAnswer sharedAnswer Only
-bid-only words map c r t =
-    let by = only-cond ofBid in
-    only-then ofBid (read words) _ (read-only _ words) λ s.
-    only-then ofBid (mapFits s map) _ (fits-only ofBid (listed 13 ofBid refl) s map) λ grid.
-    only-then ofBid (settled c) _ (settled-only c) λ settings.
-    only-then ofBid (placed s r) _ (placed-only ofBid (listed 16 ofBid refl) s r) λ x.
-    by (not (eqb (at map (rank (lengthsOf s) x)) 0)) _ _ (listed 16 ofBid refl)
-    (by (usedUp (c .window) (r .counts)) _ _ (listed 16 ofBid refl)
-    (by (wouldBeGranted s map x t && (not (shareLeft c r t) && otherGoes s map c r x t)) _ _ tt (map-only s map x t)))
+bid-only words map c r t = only-then ofBid (read words) _ (read-only _ words) λ s. answer-only ofBid (listed 13 ofBid refl) (listed 16 ofBid refl) (listed 18 ofBid refl) (listed 26 ofBid refl) s t (λ h. listed 17 ofBid refl) map c r
+
+-- the bids of a trial name tasks of the set
+module _ (words : List ℕ) (s : Set) (is-read : read words ≡ given s) (m : List ℕ) (c : Settings) where
+  tried-only : (ts : List ℕ) → ((i : ℕ) → i < length ts → at ts i < length (s .tasks)) → (k : Tried) (r : Record) → Only ofTrial (tryFrom words m c s k r ts)
+  unfolding tryFrom Only _then_
+  tried-only [] tasks k r = tt
+  tried-only (t ∷ ts) tasks k r =
+      let one : Only ofTrial (bid words m c r t .answer) = rw is-read (answer-only ofTrial (listed 13 ofTrial refl) (listed 16 ofTrial refl) (listed 18 ofTrial refl) (listed 26 ofTrial refl) s t (λ h. absurd (omega (arith, tasks 0 (omega arith)))) m c r) in
+      only-cond ofTrial (isEnd (lengthsOf s) (stateIn s r)) _ _ tt
+      (only-then ofTrial (bid words m c r t .answer) _ one λ b. tried-only ts (λ i h. tasks (suc i) (omega arith)) (counted k t b) (bid words m c r t .after))
+
+  on-set-only : (order : List ℕ) (rounds : ℕ) → Only ofTrial (trialOn words m order rounds c s)
+  unfolding trialOn Only _then_
+  on-set-only order rounds =
+      only-then ofTrial (mapFits s m) _ (fits-only ofTrial (listed 13 ofTrial refl) s m) λ grid.
+      only-then ofTrial (settled c) _ (settled-only ofTrial (listed 13 ofTrial refl) (listed 16 ofTrial refl) (listed 18 ofTrial refl) (listed 26 ofTrial refl) c) λ settings.
+      ⊎-elim
+      (λ r. rw (right-order s order r) (tried-only (roundsOf order rounds) (rounds-tasks s order r rounds) untried fresh))
+      (λ f. rw (faulty-order s order (f .0) (f .1)) (listed 27 ofTrial refl))
+      (right-or-faulty s order)
+
+trial-only : (words map order : List ℕ) (rounds : ℕ) (c : Settings) → Only ofTrial (trial words map order rounds c)
+trial-only words map order rounds c =
+    only-intro ofTrial (trial words map order rounds c) λ n p e.
+    by-cases (then-refused (trialOn words map order rounds c) (read words) n p .0 e)
+    (only-listed ofTrial (read words) (read-only _ words) n p)
+    (λ q. only-listed ofTrial (trialOn words map order rounds c (q .0)) (on-set-only words (q .0) (q .1) map c order rounds) n p (q .2))
 
 again-only : (words : List ℕ) (r : Record) → Only ofAgain (again words r .answer)
 unfolding againAnswer Only
@@ -169,6 +203,7 @@ refusals = record {
   reads = read-only [];
   analyses = analysis-only;
   bids = bid-only;
+  trials = trial-only;
   agains = again-only;
   routes = route-only;
   reads-formerly = former-only [];

@@ -1,4 +1,4 @@
--- The desk examples a to l, r and t (SCOPE.md, "Desk examples"), on the definitions alone.
+-- The desk examples a to l, r, t and u (SCOPE.md, "Desk examples"), on the definitions alone.
 use Prim.Native.Nat.{ℕ}
 use mathlib.Core.Path.{_≡_}
 use mathlib.Core.List.{List, [], _∷_, map}
@@ -14,6 +14,7 @@ use Rattle.model.specs.PerThousand.{permittedStates, unsafeStates}
 use Rattle.model.specs.Analysis.{Analysed, analyse}
 use Rattle.model.specs.Record.{Record, fresh}
 use Rattle.model.specs.Broker.{Settings, granted, share-spent, busy, held, bids, bid, afterCalls, Bid}
+use Rattle.model.specs.Trial.{Tally, Tried, trial}
 use Rattle.model.specs.Route.{route}
 use Rattle.demands.specs.Terms.{_to_}
 
@@ -52,6 +53,13 @@ recordA p q n = record { positions = p ∷ q ∷ 0 ∷ 0 ∷ 0 ∷ 0 ∷ 0 ∷ 0
 abbrev pub bidsB : List ℕ
 bidsB = 0 ∷ 1 ∷ 0 ∷ 1 ∷ 0 ∷ 1 ∷ []
 
+-- a row's four numbers, and what a trial on a counts: its bids, the rows of its two tasks, and the bids answered Finished
+abbrev pub row : ℕ → ℕ → ℕ → ℕ → Tally
+row g b h p = record { granted = g; busy = b; held = h; share-spent = p }
+
+abbrev pub triedA : ℕ → Tally → Tally → ℕ → Tried
+triedA n k l f = record { made = n; rows = k ∷ l ∷ replicate 6 (row 0 0 0 0); finished = f }
+
 -- example d: devices a, b, c are 0, 1, 2
 abbrev pub d : Set
 d = record {
@@ -79,7 +87,7 @@ r =
 abbrev pub bidsT : List ℕ
 bidsT = 0 ∷ 1 ∷ 0 ∷ 1 ∷ 0 ∷ 0 ∷ []
 
--- SCOPE.md, "Desk examples", a to l, r and t
+-- SCOPE.md, "Desk examples", a to l, r, t and u
 pub record Examples : Type 0 where
   -- a's plan, word for word; 1 of its 20 permitted states is unsafe
   pub a-states : (unsafeStates (setIn a) ≡ 1) × (permittedStates (setIn a) ≡ 20)
@@ -143,3 +151,25 @@ pub record Examples : Type 0 where
       ≡ given granted ∷ given granted ∷ given granted ∷ given share-spent ∷ given granted ∷ given granted ∷ []
   -- the grants of both tasks use up a window together
   pub t-together : afterCalls a mapA fresh (map (bids (settings 1 4)) (0 ∷ 0 ∷ 0 ∷ 1 ∷ [])) .counts ≡ replicate 8 0
+  -- u: task 0 bids twice a round and task 1 once, until both are finished; with a share of 1 in windows of 2 one bid of task 0 waits for task 1
+  pub u-free : trial a mapA (0 ∷ 0 ∷ 1 ∷ []) 8 (settings 255 255) ≡ given (triedA 15 (row 4 0 0 0) (row 4 1 0 0) 6)
+  pub u-shared : trial a mapA (0 ∷ 0 ∷ 1 ∷ []) 8 (settings 1 2) ≡ given (triedA 15 (row 4 0 0 1) (row 4 1 0 0) 5)
+  -- task 1 first: the end comes in the middle of a round, after 14 bids
+  pub u-middle : trial a mapA (1 ∷ 0 ∷ 0 ∷ []) 8 (settings 1 2) ≡ given (triedA 14 (row 4 3 2 0) (row 4 0 0 0) 1)
+  -- in turns: twelve bids of the sixteen; three rounds are not enough, and without rounds there is no bid, whatever the map
+  pub u-turns : trial a mapA (0 ∷ 1 ∷ []) 8 (settings 1 2) ≡ given (triedA 12 (row 4 0 0 0) (row 4 1 1 0) 2)
+  pub u-early : trial a mapA (0 ∷ 1 ∷ []) 3 (settings 1 2) ≡ given (triedA 6 (row 3 0 0 0) (row 1 1 1 0) 0)
+  pub u-none : trial a (replicate 25 2) (0 ∷ 1 ∷ []) 0 (settings 1 2) ≡ given (triedA 0 (row 0 0 0 0) (row 0 0 0 0) 0)
+  -- a start that is not open, and a byte over 3, at the first bid and after a grant
+  pub u-16 : trial a (replicate 25 2) (0 ∷ 1 ∷ []) 1 (settings 1 2) ≡ refused 16 0
+  pub u-18 : trial a (0 ∷ replicate 24 4) (1 ∷ []) 1 (settings 1 2) ≡ refused 18 1
+  pub u-18-later : trial a (0 ∷ 0 ∷ replicate 23 4) (1 ∷ []) 2 (settings 1 2) ≡ refused 18 2
+  -- orders that are empty, name task 2, and have 256 places; settings come first, and rounds don't matter
+  pub u-empty : trial a mapA [] 1 (settings 1 2) ≡ refused 27 0
+  pub u-absent : trial a mapA (0 ∷ 1 ∷ 2 ∷ []) 0 (settings 1 2) ≡ refused 27 2
+  pub u-long : trial a mapA (replicate 256 0) 1 (settings 1 2) ≡ refused 27 255
+  pub u-settings : trial a mapA [] 0 (settings 0 2) ≡ refused 26 0
+  pub u-short : trial a (replicate 24 0) [] 0 (settings 0 2) ≡ refused 13 25
+  pub u-order : trial a (replicate 25 2) (0 ∷ 2 ∷ []) 1 (settings 1 2) ≡ refused 27 1
+  -- a set without actions is at its end, and still its order names an absent task
+  pub u-behind : trial (0x20000000 ∷ 0x50000001 ∷ []) (0 ∷ []) (0 ∷ 1 ∷ []) 1 (settings 1 2) ≡ refused 27 1

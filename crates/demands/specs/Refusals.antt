@@ -8,6 +8,7 @@ use Rattle.model.specs.Clean.{clean}
 use Rattle.model.specs.Analysis.{analyse}
 use Rattle.model.specs.Record.{Record}
 use Rattle.model.specs.Broker.{Settings, bid, again}
+use Rattle.model.specs.Trial.{trial}
 use Rattle.model.specs.State.{State}
 use Rattle.model.specs.Route.{route}
 use Rattle.model.specs.StoredPlan.{locate}
@@ -26,6 +27,10 @@ ofAnalysis = ofSet ++ (13 ∷ 14 ∷ [])
 -- a bid: a set's, 13, 26, 16, 17, 18
 abbrev pub ofBid : List ℕ
 ofBid = ofSet ++ (13 ∷ 26 ∷ 16 ∷ 17 ∷ 18 ∷ [])
+
+-- a trial: a set's, 13, 26, 27, and its bids' 16 and 18; its order names tasks of the set alone, so no bid brings 17
+abbrev pub ofTrial : List ℕ
+ofTrial = ofSet ++ (13 ∷ 26 ∷ 27 ∷ 16 ∷ 18 ∷ [])
 
 -- again takes no map: a set's, 16, 19
 abbrev pub ofAgain : List ℕ
@@ -53,6 +58,7 @@ pub record Refusals : Type 0 where
   pub reads : (words : List ℕ) → Only ofSet (read words)
   pub analyses : (words map plan : List ℕ) → Only ofAnalysis (analyse words map plan .answer)
   pub bids : (words map : List ℕ) (c : Settings) (r : Record) (t : ℕ) → Only ofBid (bid words map c r t .answer)
+  pub trials : (words map order : List ℕ) (rounds : ℕ) (c : Settings) → Only ofTrial (trial words map order rounds c)
   pub agains : (words : List ℕ) (r : Record) → Only ofAgain (again words r .answer)
   pub routes : (words map : List ℕ) (r : Record) (slice : List ℕ) → Only ofRoute (route words map r slice .answer)
   pub reads-formerly : (words : List ℕ) → Only ofFormerSet (readBy former words)

@@ -6,6 +6,7 @@ mod questions;
 mod sets;
 mod shares;
 mod stored;
+mod trials;
 
 fn main() {
     let words = sets::A;
@@ -18,6 +19,7 @@ fn main() {
     calls::spoilt_records(&words, &map);
     calls::spoilt_maps(&words);
     shares::on_a(&words, &map);
+    trials::on_a(&words, &map);
     sets::mapped_sets();
     sets::longer_slice();
     sets::small_sets();

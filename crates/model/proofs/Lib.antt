@@ -78,5 +78,6 @@ pub mod Decimal
 pub mod Rows
 pub mod FileShown
 pub mod ToPrint
+pub mod Trials
 pub mod PrintedLength
 pub mod CleanedFile

@@ -79,11 +79,14 @@ map-at f [] i z h = absurd (omega arith)
 map-at f (a ∷ l) zero z h = refl
 map-at f (a ∷ l) (suc i) z h = map-at f l i z (le-of-suc-le-suc h)
 
--- a list of zeros has 0 everywhere
+-- a list of the same has it everywhere, and past its end by default
+pub same-at : {A : Type 0} (a : A) (n t : ℕ) → getD (replicate n a) t a ≡ a
+same-at a zero t = refl
+same-at a (suc n) zero = refl
+same-at a (suc n) (suc t) = same-at a n t
+
 pub at-zeros : (n t : ℕ) → at (replicate n 0) t ≡ 0
-at-zeros zero t = refl
-at-zeros (suc n) zero = refl
-at-zeros (suc n) (suc t) = at-zeros n t
+at-zeros = same-at 0
 
 -- a list filled from its front to its end
 pub filled : (l₀ l : List ℕ) (a i : ℕ) → i ≤ length l₀ → length l₀ ≤ i → l ≡ replicate i a ++ drop i l₀ → l ≡ replicate (length l₀) a

@@ -15,6 +15,11 @@ use Rattle.model.proofs.States.{unfinished-task, end-intro, end-finishe
 use Rattle.model.proofs.Sums.{sum-next, sum-le, sum-lt}
 use Rattle.model.proofs.Moves.{Good}
 
+-- bids with the same settings keep them
+pub bids-keep : (c : Settings) (ts : List ℕ) → Keeps c (map (bids c) ts)
+bids-keep c [] d t j = absurd (List·Memᴰ·not-nil j)
+bids-keep c (u ∷ ts) d t j = by-cases (List·Memᴰ·cases-cons j) (λ e. cc) (λ k. bids-keep c ts d t k)
+
 -- at the end every action is done
 end-sum : (ls : List ℕ) (x : State) → InGrid ls x → isEnd ls x ≡ true → sum ls ≤ sum x
 end-sum ls x g e =
@@ -135,11 +140,6 @@ module _ (ls : List ℕ) (permitted : State → Bool) {R : Type 0} (state : R �
           (λ e.
           rw (after-first afterCall r (bids c t) (map (bids c) ts), first-other afterCall isGrant r (bids c t) (map (bids c) ts) e, facts .stays r c t e) (bids-sum r ts i))
 
-      -- the bids of a round keep its settings
-      pub round-keeps : (ts : List ℕ) → Keeps c (map (bids c) ts)
-      round-keeps [] d t j = absurd (List·Memᴰ·not-nil j)
-      round-keeps (u ∷ ts) d t j = by-cases (List·Memᴰ·cases-cons j) (λ e. cc) (λ k. round-keeps ts d t k)
-
       -- as many rounds as actions are left finish every task
       pub rounds-end : (rs : List (List ℕ)) → ((ts : List ℕ) → List·Memᴰ ts rs → IsRound (length ls) ts) → (r : R) → InService r → Within c r
           → sum ls ≤ sum (state r) + length rs → isEnd ls (state (afterList afterCall r (roundCalls c rs))) ≡ true
@@ -148,7 +148,7 @@ module _ (ls : List ℕ) (permitted : State → Bool) {R : Type 0} (state : R �
           unfold afterList in end-intro ls (state r) λ t u. let l = sum-lt ls (state r) (facts .good r i .grid) t (ltb-true _ _ u) in omega arith
       rounds-end (ts ∷ rs) named r i w h =
           let after = afterList afterCall r (map (bids c) ts) in
-          let rest = rounds-end rs (λ us j. named us (List·Memᴰ·tail j)) after (list-serves r (map (bids c) ts) i) (list-within r (map (bids c) ts) (round-keeps ts) w) in
+          let rest = rounds-end rs (λ us j. named us (List·Memᴰ·tail j)) after (list-serves r (map (bids c) ts) i) (list-within r (map (bids c) ts) (bids-keep c ts) w) in
           let done = bids-sum r ts i in
           rw (after-append afterCall r (map (bids c) ts) (roundCalls c rs))
           (by-bool (isEnd ls (state r))

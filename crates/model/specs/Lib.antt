@@ -21,6 +21,7 @@ pub mod PerThousand
 pub mod Record
 pub mod Analysis
 pub mod Broker
+pub mod Trial
 pub mod Route
 pub mod Printed
 pub mod CleanFile

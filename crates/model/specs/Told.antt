@@ -1,17 +1,20 @@
 -- What hosts are told of the answers, in numbers (SCOPE.md, "Refusals"; include/arbiter.h names the kinds for C).
 use Prim.Native.Nat.{ℕ}
 use mathlib.Core.Bool.{cond}
+use mathlib.Core.List.{List}
+use lib.ListN.{replicate}
 use lib.Dec.{eqb}
-use Rattle.model.specs.Answer.{Answer, given, refused, ifGiven}
+use Rattle.model.specs.Answer.{Answer, given, refused, _then_, ifGiven}
 use Rattle.model.specs.Set.{lengthsOf, size}
 use Rattle.model.specs.Read.{Reading}
 use Rattle.model.specs.Analysis.{Planned}
 use Rattle.model.specs.Broker.{Bid, granted, finished, share-spent, busy, held, Again, restarted}
+use Rattle.model.specs.Trial.{Tally, Tried, noBids}
 use Rattle.model.specs.StoredPlan.{Location, in-forbidden, in-unsafe, in-neither}
 
--- the version of the library, 5.0.0: major times 10,000, minor times 100, patch
+-- the version of the library, 5.1.0: major times 10,000, minor times 100, patch
 abbrev pub VERSION : ℕ
-VERSION = 50000
+VERSION = 50100
 
 -- a kind, a refusal's number and a value; 0 where there is none
 pub record Told : Type 0 where
@@ -74,6 +77,23 @@ tellBid = tell bidNumbers
 abbrev pub tellAgain : Answer Again → Told
 tellAgain = tell (λ v. plain 8)
 
+-- what is told of a trial: the answer, with the number of bids made, and beside it the rows and the bids answered Finished, all 0 where it is refused
+pub record TrialTold : Type 0 where
+  pub answer : Told
+  pub rows : List Tally
+  pub finished : ℕ
+
+-- the answer alone
+abbrev pub tellMade : Answer ℕ → Told
+tellMade = tell (λ n. valued 14 n)
+
+abbrev pub tellTrial : Answer Tried → TrialTold
+tellTrial a = record {
+  answer = tellMade (a then λ k. given (k .made));
+  rows = ifGiven a (λ k. k .rows) (replicate 8 noBids);
+  finished = ifGiven a (λ k. k .finished) 0;
+}
+
 -- a question to a stored plan, with the index of the box's first word
 abbrev pub tellLocation : Answer Location → Told
 tellLocation = tell locationNumbers
@@ -109,6 +129,10 @@ hearBid = hear bidHeard
 
 abbrev pub hearAgain : Told → Answer Again
 hearAgain = hear (λ a. restarted)
+
+-- a trial: the number, and what stands beside it
+abbrev pub hearTrial : TrialTold → Answer Tried
+hearTrial t = hear (λ a. record { made = a .value; rows = t .rows; finished = t .finished }) (t .answer)
 
 -- of a question the kind tells which value
 unfoldable pub locationHeard : Told → Location

@@ -1,7 +1,7 @@
 // The numbers of docs/SCOPE.md, by name. What they mean stands in specs/, and the theorems on it in proofs/.
 
 // The version of all that is built from here: major times 10,000, minor times 100, patch. CHANGELOG.md says what moves which.
-pub const VERSION: u32 = 50000;
+pub const VERSION: u32 = 50100;
 
 // The limits of a set.
 pub const MAX_WORDS: usize = 4096;
@@ -53,6 +53,9 @@ pub const DEAD: u8 = 3;
 // The largest share and the largest window.
 pub const MAX_SETTING: u32 = 255;
 
+// The longest order of a trial.
+pub const MAX_ORDER: usize = 255;
+
 // What is counted in parts per thousand is multiplied by this.
 pub const THOUSAND: u32 = 1000;
 
@@ -103,6 +106,8 @@ pub const NO_ROUTE: u8 = 20;
 pub const ROUTE_TOO_SHORT: u8 = 21;
 
 pub const BAD_SETTING: u8 = 26;
+
+pub const BAD_ORDER: u8 = 27;
 
 // The refusals of a stored plan.
 pub const BAD_TASK_COUNT: u8 = 22;

@@ -1,12 +1,15 @@
-// What the programs that read a file have in common: what they are asked for, standard input read to its end, a write that failed, and their version.
+// What the programs that read a file have in common: what they are asked for, numbers among it, standard input read to its end, a write that failed, and their version.
 mod arguments;
 mod input;
+mod numbers;
 
 pub use arguments::Asked;
 pub use arguments::read_arguments;
 pub use input::Input;
 pub use input::read_all;
 use libc::STDOUT_FILENO;
+pub use numbers::Number;
+pub use numbers::read_number;
 
 // The parts of a version's number.
 const MAJOR: u32 = 10000;

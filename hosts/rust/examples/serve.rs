@@ -1,6 +1,7 @@
 //! serve SETFILE [SHARE WINDOW]: reads a set (four bytes a word, lowest first), analyses it, serves rounds of bids until every task is finished, starts
-//! anew and prints the route from the start. Each bid brings SHARE and WINDOW; without them both are 255, and no share is ever spent. The same program
-//! in C is `c/serve.c`, in Python `python/serve.py`; all print the same.
+//! anew and prints the route from the start. Each bid brings SHARE and WINDOW; without them both are 255, and no share is ever spent. At last it tries
+//! these settings and others for a turn in which task 0 bids twice as often. The same program in C is `c/serve.c`, in Python `python/serve.py`; all print
+//! the same.
 //!
 //! Exit status: 0; 1 if a call was refused, with the refusal as the last line; 2 if the arguments are wrong, the file can't be read or standard output not written.
 
@@ -54,6 +55,19 @@ fn all_finished(service: &mut Service, settings: Settings, round: usize, told: &
     Ok(all)
 }
 
+/// A trial of these settings: task 0, then every task in turn, for as many rounds as there may be, since it stops once every task is finished.
+fn tried(analysed: &Analysed, settings: Settings) -> Result<String, Refused> {
+    let tasks = analysed.set().tasks();
+    let order: Vec<u8> = [0].into_iter().chain(0..tasks as u8).collect();
+    let trial = analysed.trial(&order, u16::MAX, settings)?;
+    let Settings { share, window } = settings;
+    let mut told = format!("trial with share {share}, window {window}: {} bids, {} of them answered finished\n", trial.made, trial.finished);
+    for (task, row) in trial.rows.iter().enumerate().take(tasks) {
+        told += &format!("trial, task {task}: {row}\n");
+    }
+    Ok(told)
+}
+
 fn serve(bytes: &[u8], settings: Settings, told: &mut String) -> Result<(), Refused> {
     let analysed = Analysed::new(words_of(bytes)?)?;
     *told += &described(&analysed);
@@ -72,6 +86,11 @@ fn serve(bytes: &[u8], settings: Settings, told: &mut String) -> Result<(), Refu
         *told += &format!(" {task}");
     }
     *told += "\n";
+
+    let analysed = service.analysed();
+    *told += &tried(analysed, settings)?;
+    // A claim and a release each, and room for them in the window.
+    *told += &tried(analysed, Settings::new(2, 2 * analysed.set().tasks() as u32))?;
     Ok(())
 }
 

@@ -1,6 +1,6 @@
 //! A set with what its analysis made (`docs/SCOPE.md`, "Analysis").
 
-use crate::{plain, PerThousand, Plan, Planned, Refusal, Refused, Set};
+use crate::{plain, PerThousand, Plan, Planned, Refusal, Refused, Set, Settings, Trial};
 use alloc::vec;
 use alloc::vec::Vec;
 
@@ -83,5 +83,37 @@ impl Analysed {
     /// ```
     pub fn per_thousand(&self) -> PerThousand {
         self.per_thousand
+    }
+
+    /// What do these settings do? The answers to bids of the order's tasks, round after round, counted: for each task those granted and those that had to wait, and
+    /// why. The bids are made on a fresh record of the trial's own, so that nothing changes, and it may be made in service too; where every task is finished it stops.
+    /// [`plain::trial`] says more of orders and rounds.
+    ///
+    /// ```
+    /// use arbiter::{Analysed, Settings};
+    ///
+    /// // Call-taking, task 0, claims and releases the line once, paging, task 1, three times.
+    /// let set = [
+    ///     0x10000001, 0x20000000, 0x30000000, 0x40000000, 0x20000000, 0x30000000, 0x40000000, 0x30000000, 0x40000000, 0x30000000, 0x40000000, 0x5000000B,
+    /// ];
+    /// let analysed = Analysed::new(set)?;
+    /// // Paging bids three times as often.
+    /// let waits = |settings| analysed.trial(&[1, 1, 1, 0], 100, settings).map(|trial| trial.rows.map(|row| (row.busy, row.share_spent)));
+    /// let (without_shares, shared) = (waits(Settings::OFF)?, waits(Settings::new(2, 4))?);
+    /// assert_eq!(without_shares[..2], [(1, 0), (0, 0)]);
+    /// assert_eq!(shared[..2], [(0, 0), (3, 1)]);
+    /// # Ok::<(), arbiter::Refused>(())
+    /// ```
+    ///
+    /// # Errors
+    ///
+    /// [`Refusal::BadSetting`](crate::Refusal::BadSetting), and then [`Refusal::BadOrder`](crate::Refusal::BadOrder), whatever the rounds are. Any other refusal is a sign
+    /// of damaged memory.
+    ///
+    /// # Panics
+    ///
+    /// If the linked library isn't the one that belongs to this crate.
+    pub fn trial(&self, order: &[u8], rounds: u16, settings: Settings) -> Result<Trial, Refused> {
+        plain::trial(&self.set, &self.map, order, rounds, settings)
     }
 }

@@ -3,7 +3,7 @@
 //! A set is a list of 32-bit words that says which devices there are and in which order each task claims and releases them
 //! (`docs/AUTHORS.md`). [`Analysed`] is a set with its map, a byte for each state of progress, and its plan, a list of boxes. [`Service`] is
 //! asked for a bid before every step of a task and says whether it may be made now. [`Settings`] say how large a share of the grants a task may have while
-//! others could go on. `docs/HOSTS.md` tells the whole life of a set.
+//! others could go on; [`Analysed::trial`] says beforehand what they do. `docs/HOSTS.md` tells the whole life of a set.
 //!
 //! ```
 //! # #[cfg(feature = "alloc")] {
@@ -77,6 +77,7 @@ mod service;
 mod set;
 mod settings;
 mod state;
+mod trial;
 mod version;
 mod words;
 
@@ -93,6 +94,7 @@ pub use service::Service;
 pub use set::{Action, Set};
 pub use settings::Settings;
 pub use state::State;
+pub use trial::{Tally, Trial};
 #[cfg(feature = "alloc")]
 pub use words::words_of;
 
@@ -155,13 +157,15 @@ pub enum Refusal {
     UnclaimedDevice = sys::UNCLAIMED_DEVICE,
     /// The slice is shorter than the cleaned set, whose length is the place.
     CleanTooShort = sys::CLEAN_TOO_SHORT,
-    /// A bid's share or window isn't 1 to 255; the place is 0.
+    /// The share or the window of a bid or a trial isn't 1 to 255; the place is 0.
     BadSetting = sys::BAD_SETTING,
+    /// A trial's order is empty, and the place is 0; or the place is the first in it that names a task which the set doesn't have, or is 255, which no order has.
+    BadOrder = sys::BAD_ORDER,
 }
 
 impl Refusal {
     /// All refusals by rising number, from 1.
-    pub const ALL: [Refusal; 26] = [
+    pub const ALL: [Refusal; 27] = [
         Refusal::NoWords,
         Refusal::TooManyWords,
         Refusal::WordAfterEnd,
@@ -188,6 +192,7 @@ impl Refusal {
         Refusal::UnclaimedDevice,
         Refusal::CleanTooShort,
         Refusal::BadSetting,
+        Refusal::BadOrder,
     ];
 
     /// The refusal's number in `docs/SCOPE.md`, "Refusals"; `TryFrom<u8>` goes the other way.
@@ -229,7 +234,8 @@ impl Refusal {
                 "no task claims this device: mend the claim that should name it, or let 'clean < OLDFILE > NEWFILE' take such devices out"
             }
             Refusal::CleanTooShort => "the cleaned set has more words than its slice",
-            Refusal::BadSetting => "the share or the window that came with the bid is outside 1 to 255",
+            Refusal::BadSetting => "the share or the window is outside 1 to 255",
+            Refusal::BadOrder => "the order of a trial is empty, names a task here that the set doesn't have, or goes on after 255 tasks",
         }
     }
 }

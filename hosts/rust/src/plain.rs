@@ -9,7 +9,8 @@
 //! - **the record is as the last call left it**, and the only one for the set's devices.
 //!
 //! [`Analysed`](crate::Analysed) and [`Service`](crate::Service) see to all three; they are this module's calls with the slices in one hand.
-//! [`locate`] and [`clean`] take none of these, and trust nothing. Of [`Settings`], which come with each [`bid`], none does harm: what isn't allowed is refused.
+//! [`trial`] has a record of its own, and changes nothing. [`locate`] and [`clean`] take none of these, and trust nothing. Of [`Settings`], which come with each
+//! [`bid`] and [`trial`], none does harm: what isn't allowed is refused.
 //!
 //! ```
 //! use arbiter::{plain, BidAnswer, Location, PerThousand, Record, Settings};
@@ -36,7 +37,7 @@
 //! ```
 
 use crate::answers::{refused, value_of};
-use crate::{sys, version, BidAnswer, Location, PerThousand, Planned, Positions, Record, Refused, Settings};
+use crate::{sys, version, BidAnswer, Location, PerThousand, Planned, Positions, Record, Refused, Settings, Tally, Trial};
 
 /// What a map slice is filled with before the analysis: no byte of a map, so that one that no analysis wrote is refused and grants nothing.
 pub const NOT_ANALYSED: u8 = 0xFF;
@@ -208,5 +209,54 @@ pub fn clean(set: &[u32], clean: &mut [u32]) -> Result<usize, Refused> {
     match answer.kind {
         sys::CLEANED => Ok(value_of(answer)),
         _ => Err(refused("arbiter_clean", answer)),
+    }
+}
+
+/// What do these settings do? Makes bids on a fresh record of its own, as [`bid`] answers them: of the order's tasks one after another, round after round, and counts
+/// the answers. It looks before each bid whether every task is finished, and stops there. Nothing lent is changed, so a trial may be made at any time.
+///
+/// The order has 1 to 255 tasks of the set, each as often as wanted: one that stands there twice bids twice in each round, one that doesn't never bids, and others
+/// may wait for it all the time. With the set's own map and every task in the order, as many rounds as the set has actions bring every task home, and more rounds cost
+/// nothing; else 65,535 rounds of 255 tasks are 16,711,425 bids.
+///
+/// ```
+/// use arbiter::{plain, Settings, Tally};
+///
+/// # let set = [
+/// #     0x10000001, 0x10000001, 0x20000000, 0x30000000, 0x30000001, 0x40000001, 0x40000000, 0x20000000, 0x30000001, 0x30000000,
+/// #     0x40000000, 0x40000001, 0x5000000C,
+/// # ];
+/// let mut map = [plain::NOT_ANALYSED; 64];
+/// let _ = plain::analyse(&set, &mut map, &mut [0; 64])?;
+///
+/// // Task 0 bids twice as often as task 1.
+/// let order = [0, 0, 1];
+/// let without_shares = plain::trial(&set, &map, &order, 100, Settings::OFF)?;
+/// assert_eq!(without_shares.rows[0], Tally { granted: 4, busy: 0, held: 0, share_spent: 0 });
+/// assert_eq!(without_shares.rows[1], Tally { granted: 4, busy: 1, held: 0, share_spent: 0 });
+/// assert_eq!((without_shares.made, without_shares.finished), (15, 6));
+///
+/// let shared = plain::trial(&set, &map, &order, 100, Settings::new(2, 4))?;
+/// assert_eq!(shared.rows[0].share_spent, 1);
+/// # Ok::<(), arbiter::Refused>(())
+/// ```
+///
+/// # Errors
+///
+/// Refusals 1 to 13, 24, 26 and 27, whatever the rounds are; and 16 and 18 where a bid is refused, which ends the trial: both only for a map that isn't the set's own.
+/// None of them leaves anything of what was counted before.
+///
+/// # Panics
+///
+/// If the linked library isn't the one that belongs to this crate.
+pub fn trial(set: &[u32], map: &[u8], order: &[u8], rounds: u16, settings: Settings) -> Result<Trial, Refused> {
+    version::check();
+    let Settings { share, window } = settings;
+    // SAFETY: as in `read`.
+    let trial = unsafe { sys::arbiter_trial(set.as_ptr(), set.len(), map.as_ptr(), map.len(), order.as_ptr(), order.len(), rounds, share, window) };
+    let sys::Trial { answer, rows, finished } = trial;
+    match answer.kind {
+        sys::TRIED => Ok(Trial { made: answer.value, rows: rows.map(Tally::from), finished }),
+        _ => Err(refused("arbiter_trial", answer)),
     }
 }

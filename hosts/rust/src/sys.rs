@@ -1,4 +1,4 @@
-//! The library as it is: the calls of `include/arbiter.h`, its four structs and every number by name.
+//! The library as it is: the calls of `include/arbiter.h`, its six structs and every number by name.
 //!
 //! Nothing here is safe to call without reading `docs/HOSTS.md`; the crate's root has the safe interface. A caller from here looks first whether
 //! `arbiter_version` answers `VERSION`: the structs may differ from one version to the next.
@@ -42,7 +42,28 @@ pub struct Analysis {
     pub remainder: u32,
 }
 
-// The compiler must lay all four out as the library does.
+/// A task's row in a trial: how many of its bids were answered `GRANTED`, `BUSY`, `HELD` and `SHARE_SPENT`.
+#[repr(C)]
+#[derive(Clone, Copy, Debug, PartialEq, Eq)]
+pub struct Tally {
+    pub granted: u32,
+    pub busy: u32,
+    pub held: u32,
+    pub share_spent: u32,
+}
+
+/// What a trial answers, and beside it a row for each task and how many bids were answered `FINISHED`; all of them 0 in a refused answer. It is
+/// `arbiter_trial_result` in C, where a struct and a call can't share a name.
+#[must_use = "it is all that the trial was for"]
+#[repr(C)]
+#[derive(Clone, Copy, Debug, PartialEq, Eq)]
+pub struct Trial {
+    pub answer: Answer,
+    pub rows: [Tally; MAX_TASKS],
+    pub finished: u64,
+}
+
+// The compiler must lay all six out as the library does.
 const _: () = assert!(size_of::<Answer>() == 16);
 const _: () = assert!(offset_of!(Answer, kind) == 0);
 const _: () = assert!(offset_of!(Answer, refusal) == 4);
@@ -57,6 +78,15 @@ const _: () = assert!(offset_of!(Record, grants) == 8);
 const _: () = assert!(offset_of!(Record, counts) == 12);
 const _: () = assert!(size_of::<State>() == 8);
 const _: () = assert!(offset_of!(State, positions) == 0);
+const _: () = assert!(size_of::<Tally>() == 16);
+const _: () = assert!(offset_of!(Tally, granted) == 0);
+const _: () = assert!(offset_of!(Tally, busy) == 4);
+const _: () = assert!(offset_of!(Tally, held) == 8);
+const _: () = assert!(offset_of!(Tally, share_spent) == 12);
+const _: () = assert!(size_of::<Trial>() == 152);
+const _: () = assert!(offset_of!(Trial, answer) == 0);
+const _: () = assert!(offset_of!(Trial, rows) == 16);
+const _: () = assert!(offset_of!(Trial, finished) == 144);
 
 extern "C" {
     pub fn arbiter_version() -> u32;
@@ -68,10 +98,21 @@ extern "C" {
     pub fn arbiter_route(record: Record, set: *const u32, set_len: usize, map: *const u8, map_len: usize, route: *mut u8, route_len: usize) -> Answer;
     pub fn arbiter_locate(state: State, plan: *const u32, plan_len: usize, tasks: usize) -> Answer;
     pub fn arbiter_clean(set: *const u32, set_len: usize, clean: *mut u32, clean_len: usize) -> Answer;
+    pub fn arbiter_trial(
+        set: *const u32,
+        set_len: usize,
+        map: *const u8,
+        map_len: usize,
+        order: *const u8,
+        order_len: usize,
+        rounds: u16,
+        share: u32,
+        window: u32,
+    ) -> Trial;
 }
 
 // The version that this interface is of, and the library must be: major times 10,000, minor times 100, patch.
-pub const VERSION: u32 = 50000;
+pub const VERSION: u32 = 50100;
 
 // The kinds of an answer. A zeroed answer is a refusal.
 pub const REFUSED: u32 = 0; // value: the refusal's place
@@ -88,6 +129,7 @@ pub const IN_UNSAFE_BOX: u32 = 10; // likewise
 pub const IN_NO_BOX: u32 = 11;
 pub const CLEANED: u32 = 12; // value: the number of words of the cleaned set
 pub const SHARE_SPENT: u32 = 13;
+pub const TRIED: u32 = 14; // value: the number of bids made; the rows stand beside the answer
 
 // The limits of a set.
 pub const MAX_WORDS: usize = 4096;
@@ -97,8 +139,11 @@ pub const MAX_TASKS: usize = 8;
 pub const MAX_ACTIONS: u8 = 255;
 pub const MAX_GRID: u32 = 65536;
 
-// The largest share and the largest window of a bid; the smallest of each is 1.
+// The largest share and the largest window of a bid or a trial; the smallest of each is 1.
 pub const MAX_SETTING: u32 = 255;
+
+// The longest order of a trial; the shortest has one task.
+pub const MAX_ORDER: usize = 255;
 
 // A word is its kind times this, plus its field.
 pub const FIELDS: u32 = 0x1000_0000;
@@ -153,6 +198,7 @@ pub const NO_ROUTE: u8 = 20;
 pub const ROUTE_TOO_SHORT: u8 = 21;
 pub const CLEAN_TOO_SHORT: u8 = 25;
 pub const BAD_SETTING: u8 = 26;
+pub const BAD_ORDER: u8 = 27;
 
 // The refusals of a stored plan.
 pub const BAD_TASK_COUNT: u8 = 22;

@@ -2,7 +2,7 @@
 
 mod sets;
 
-use arbiter::plain::{self, again, analyse, read, route, NOT_ANALYSED};
+use arbiter::plain::{self, again, analyse, read, route, trial, NOT_ANALYSED};
 use arbiter::{sys, BidAnswer, Record, Refusal, Refused, Settings};
 use sets::{planned, refused, users_of_one_device, A, PLAN, R, R_PLAN, STATES, STATES_OF_R, U, U_PLAN};
 
@@ -142,6 +142,7 @@ fn faulty_sets_are_refused_by_every_call_and_change_nothing() {
         assert_eq!(bid(&mut record, set, &map, 0), refused(refusal, place));
         assert_eq!(again(&mut record, set), refused(refusal, place));
         assert_eq!(route(&record, set, &map, &mut steps), refused(refusal, place));
+        assert_eq!(trial(set, &map, &[0], 1, Settings::OFF), refused(refusal, place));
         assert_eq!((map, plan, steps), ([NOT_ANALYSED; 3], [0xAAAA_AAAA; 3], [sys::NO_STEP; 3]));
         assert_eq!(record, at(1, 2));
     }

@@ -11,6 +11,7 @@ const STAND_IN: &str = r#"
 typedef struct { uint32_t kind, refusal; uint64_t value; } answer;
 typedef struct { answer told; uint32_t quotient, remainder; } analysis;
 typedef struct { uint8_t positions[8]; uint32_t grants; uint8_t counts[8]; } record;
+typedef struct { answer told; uint32_t rows[8][4]; uint64_t finished; } trial;
 static uint32_t number(const char *name) { return (uint32_t)atoi(getenv(name)); }
 static answer any(void) { return (answer){ number("KIND"), number("REFUSAL"), 0 }; }
 uint32_t arbiter_version(void) { return number("VERSION"); }
@@ -21,6 +22,7 @@ answer arbiter_again(void) { return any(); }
 answer arbiter_route(void) { return any(); }
 answer arbiter_locate(void) { return any(); }
 answer arbiter_clean(void) { return any(); }
+trial arbiter_trial(void) { return (trial){ any(), { { 0 } }, 0 }; }
 record arbiter_fresh(void) { return (record){ { 0 }, 0, { 0 } }; }
 "#;
 
@@ -38,13 +40,14 @@ fn main() {
         "route" => plain::route(&record, &[], &[], &mut []).map(|_| ()),
         "locate" => plain::locate([0; 8], &[], 1).map(|_| ()),
         "clean" => plain::clean(&[], &mut []).map(|_| ()),
+        "trial" => plain::trial(&[], &[], &[], 0, Settings::OFF).map(|_| ()),
         _ => Ok(record = Record::fresh()),
     };
     println!("{answer:?} {record:?}");
 }
 "#;
 
-const CALLS: [&str; 8] = ["read", "analyse", "bid", "again", "route", "locate", "clean", "fresh"];
+const CALLS: [&str; 9] = ["read", "analyse", "bid", "again", "route", "locate", "clean", "trial", "fresh"];
 
 /// An empty folder of this name for what a test builds.
 fn folder(name: &str) -> PathBuf {
@@ -92,7 +95,7 @@ fn no_call_reaches_another_library() {
         assert!(status == PANICKED && said.contains(of_version), "{name}: {said}");
     }
     // A fresh record is no answer.
-    for name in &CALLS[..7] {
+    for name in &CALLS[..8] {
         for [kind, refusal] in [[99, 0], [99, 1], [0, 0], [0, 99], [0, 257]] {
             let (status, said) = call(&caller, name, [VERSION, kind, refusal]);
             assert!(status == PANICKED && said.contains(&format!("arbiter_{name} gave an answer that it hasn't got")), "{name}: {said}");

@@ -133,6 +133,27 @@ fn a_service_is_resumed_from_exactly_the_open_states() {
 }
 
 #[test]
+fn settings_are_tried_beside_a_service_and_change_nothing_in_it() {
+    let mut service = in_service(&A);
+    let (settings, map) = (Settings::new(1, 2), service.analysed().map().to_vec());
+    for task in [0, 1, 0, 1] {
+        let _ = service.bid(task, settings).unwrap();
+        let before = service.record().clone();
+        // From the start, whatever the record's state is.
+        for settings in [Settings::OFF, settings, Settings::new(2, 4), Settings::new(0, 1)] {
+            for order in [&[][..], &[0], &[0, 1], &[1, 1, 0], &[0, 2]] {
+                for rounds in [0, 1, 2, u16::MAX] {
+                    assert_eq!(service.analysed().trial(order, rounds, settings), plain::trial(&A, &map, order, rounds, settings));
+                }
+            }
+        }
+        assert_eq!(service.record(), &before);
+    }
+    let trial = service.analysed().trial(&[0, 1], 2, settings).unwrap();
+    assert_eq!((trial.made, trial.rows[0].granted, trial.rows[1].busy, trial.rows[1].held, trial.finished), (4, 2, 1, 1, 0));
+}
+
+#[test]
 fn bytes_become_words_lowest_first() {
     assert_eq!(words_of(&[]), Ok(vec![]));
     assert_eq!(words_of(&[0x0C, 0, 0, 0x50, 1, 2, 3, 4]), Ok(vec![0x5000000C, 0x04030201]));

@@ -2,7 +2,9 @@
 
 mod sets;
 
-use arbiter::{plain, sys, Action, BidAnswer, BoxKind, Location, NoSuchRefusal, PerThousand, Plan, Positions, Record, Refusal, Refused, Set, Settings, State};
+use arbiter::{
+    plain, sys, Action, BidAnswer, BoxKind, Location, NoSuchRefusal, PerThousand, Plan, Positions, Record, Refusal, Refused, Set, Settings, State, Tally,
+};
 use sets::{refused, A, D, E, PLAN, R, R_PLAN, STATES, STATES_OF_R, U, U_PLAN};
 use std::ops::RangeInclusive;
 
@@ -208,11 +210,11 @@ fn settings_are_kept_as_they_are_given() {
 #[test]
 fn refusals_have_numbers_both_ways() {
     let numbers: Vec<u8> = Refusal::ALL.iter().map(|refusal| refusal.number()).collect();
-    assert_eq!(numbers, (1..=26).collect::<Vec<u8>>());
+    assert_eq!(numbers, (1..=27).collect::<Vec<u8>>());
     for refusal in Refusal::ALL {
         assert_eq!(Refusal::try_from(refusal.number()), Ok(refusal));
     }
-    for number in [0, 27, 255] {
+    for number in [0, 28, 255] {
         assert_eq!(Refusal::try_from(number), Err(NoSuchRefusal(number)));
     }
 }
@@ -221,7 +223,7 @@ fn refusals_have_numbers_both_ways() {
 fn everything_prints_for_a_log() {
     let refused = Refused { refusal: Refusal::ClaimOfHeld, place: 3 };
     assert_eq!(refused.to_string(), "refused 8 at 3: the task claims a device that it holds already");
-    assert_eq!(NoSuchRefusal(27).to_string(), "no refusal has the number 27");
+    assert_eq!(NoSuchRefusal(28).to_string(), "no refusal has the number 28");
     let answers = [BidAnswer::Granted, BidAnswer::Finished, BidAnswer::Busy { device: 1 }, BidAnswer::Held { rank: 6 }, BidAnswer::ShareSpent];
     let told = ["granted", "finished", "waits for device 1", "held back from unsafe state 6", "waits, since its share is spent"];
     assert_eq!(answers.map(|answer| answer.to_string()), told);
@@ -232,11 +234,14 @@ fn everything_prints_for_a_log() {
     assert_eq!([CLAIM_0, RELEASE_1].map(|action| action.to_string()), ["claims device 0", "releases device 1"]);
     let of_d = PerThousand { quotient: 153, remainder: 33 };
     assert_eq!(of_d.to_string(), "153 of every 1000 permitted states, remainder 33");
+    let row = Tally { granted: 4, busy: 1, held: 2, share_spent: 3 };
+    assert_eq!((row.to_string(), row.bids()), ("4 granted, 1 busy, 2 held, 3 share spent".to_string(), 10));
+    assert_eq!(Tally { granted: u32::MAX, busy: 1, ..Tally::default() }.bids(), 1 << 32);
 }
 
 #[cfg(feature = "std")]
 #[test]
 fn what_is_refused_is_an_error() {
-    let errors: [Box<dyn std::error::Error>; 2] = [Box::new(Set::read(&[]).unwrap_err()), Box::new(NoSuchRefusal(27))];
-    assert_eq!(errors.map(|error| error.to_string()), ["refused 1 at 0: the set is empty", "no refusal has the number 27"]);
+    let errors: [Box<dyn std::error::Error>; 2] = [Box::new(Set::read(&[]).unwrap_err()), Box::new(NoSuchRefusal(28))];
+    assert_eq!(errors.map(|error| error.to_string()), ["refused 1 at 0: the set is empty", "no refusal has the number 28"]);
 }

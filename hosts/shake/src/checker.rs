@@ -5,13 +5,15 @@ use crate::fenced::Fenced;
 use crate::per_thousand::{self, Parts};
 use crate::questions::Asked;
 use crate::random::Random;
-use crate::reference::{Analysis, Answer, Record, Settings, State, Worked};
+use crate::reference::{Analysis, Answer, Record, Settings, State, Tally, Trial, Worked};
 use crate::shares::{self, Shares};
 use crate::stored_plan;
+use crate::trial_cases::Lent;
+use crate::trials::{self, Trials};
 use arbiter::sys;
 use std::fmt::Debug;
 
-pub const CALLS: [&str; 7] = ["read", "analyse", "bid", "again", "route", "locate", "clean"];
+pub const CALLS: [&str; 8] = ["read", "analyse", "bid", "again", "route", "locate", "clean", "trial"];
 
 #[derive(Clone, Copy)]
 pub enum Call {
@@ -22,13 +24,14 @@ pub enum Call {
     Route,
     Locate,
     Clean,
+    Trial,
 }
 
 /// How often each call gave each answer.
 #[derive(Default)]
 pub struct Seen {
-    pub kinds: [[u64; 14]; CALLS.len()],
-    pub refusals: [[u64; 27]; CALLS.len()],
+    pub kinds: [[u64; 15]; CALLS.len()],
+    pub refusals: [[u64; 28]; CALLS.len()],
 }
 
 /// The dead states of a set, if it has any.
@@ -99,6 +102,7 @@ pub struct Checker {
     pub asked: Asked,
     pub cleanings: Cleanings,
     pub shares: Shares,
+    pub trials: Trials,
     /// Said first when something differs.
     pub input: String,
 }
@@ -118,6 +122,7 @@ fn told(answer: &sys::Answer) -> Answer {
         sys::IN_UNSAFE_BOX => Answer::InUnsafeBox(answer.value),
         sys::IN_NO_BOX => Answer::InNoBox,
         sys::CLEANED => Answer::Cleaned(answer.value),
+        sys::TRIED => Answer::Tried(answer.value),
         _ => Answer::Refused(crate::reference::Refusal { number: answer.refusal, place: answer.value }),
     }
 }
@@ -140,12 +145,19 @@ pub fn laid_out(answer: Answer) -> sys::Answer {
         Answer::InUnsafeBox(index) => of(sys::IN_UNSAFE_BOX, index),
         Answer::InNoBox => of(sys::IN_NO_BOX, 0),
         Answer::Cleaned(words) => of(sys::CLEANED, words),
+        Answer::Tried(made) => of(sys::TRIED, made),
     }
 }
 
 /// An analysis in the same way.
 pub fn laid_out_analysis(analysis: Analysis) -> sys::Analysis {
     sys::Analysis { answer: laid_out(analysis.answer), quotient: analysis.parts.quotient, remainder: analysis.parts.remainder }
+}
+
+/// And a trial.
+pub fn laid_out_trial(trial: Trial) -> sys::Trial {
+    let row = |Tally { granted, busy, held, share_spent }| sys::Tally { granted, busy, held, share_spent };
+    sys::Trial { answer: laid_out(trial.answer), rows: trial.rows.map(row), finished: trial.finished }
 }
 
 pub fn record_of(record: sys::Record) -> Record {
@@ -185,6 +197,7 @@ impl Checker {
             asked: Asked::default(),
             cleanings: Cleanings::default(),
             shares: Shares::default(),
+            trials: Trials::default(),
             input: String::new(),
         }
     }
@@ -398,6 +411,35 @@ impl Checker {
         self.alike(&made, "slice for the cleaned set", &clean, &other);
         self.alike(&made, "set", &set, &before);
         clean.read().to_vec()
+    }
+
+    pub fn trial(&mut self, random: &mut Random, words: &[u32], worked: &Worked, lent: &Lent) {
+        let Lent { map, order, rounds, settings } = lent;
+        let made = Made { call: Call::Trial, words, beside: format!(" of {rounds} rounds of {order:?} with {settings:?}"), map: Some(map) };
+        let set = Fenced::new(random, words.len(), |i| words.get(i).copied().unwrap_or(0x2000_0000));
+        let lent_map = Fenced::new(random, map.len(), |i| map.get(i).copied().unwrap_or(0));
+        // Beyond the order stand tasks that it might go on with.
+        let lent_order = Fenced::new(random, order.len(), |i| order.get(i).copied().unwrap_or((i & 1) as u8));
+        let before = (set.clone(), lent_map.clone(), lent_order.clone());
+        let library = unsafe {
+            let (set, map, order) = (set.read(), lent_map.read(), lent_order.read());
+            let Settings { share, window } = *settings;
+            sys::arbiter_trial(set.as_ptr(), set.len(), map.as_ptr(), map.len(), order.as_ptr(), order.len(), *rounds, share, window)
+        };
+        let reference = worked.trial(map, order, *rounds, *settings);
+        self.answers(&made, library.answer, reference.answer);
+        if library != laid_out_trial(reference) {
+            self.fail(&made, format!("the library answers {library:?}, the reference {reference:?}"));
+        }
+        self.alike(&made, "set", &set, &before.0);
+        self.alike(&made, "map", &lent_map, &before.1);
+        self.alike(&made, "order", &lent_order, &before.2);
+        if let Ok(set) = &worked.set {
+            let tried = trials::Made { set, worked, lent, trial: library };
+            if let Some(fault) = self.trials.count(&tried) {
+                self.fail(&made, format!("the library answers {library:?}: {fault}"));
+            }
+        }
     }
 
     /// What must be so of a set and the one that it is cleaned to.

@@ -19,6 +19,8 @@ mod random;
 mod reference;
 mod shares;
 mod stored_plan;
+mod trial_cases;
+mod trials;
 
 use arbiter::sys;
 use checker::{Checker, Seen, CALLS};
@@ -30,6 +32,7 @@ use reference::{Record, Set, Settings, Worked};
 const INPUTS: u64 = 250_000;
 const MOST_BIDS: u64 = 10_000_000;
 const SEED: u64 = 0x7469_726C_757A_6B61;
+const TRIALS: u64 = 0x7472_6961_6C73;
 
 /// The analysis needs some 300 KiB; a call that took much more would end this thread.
 const STACK: usize = 1 << 20;
@@ -68,7 +71,9 @@ fn main() {
         println!("{}", checker.asked);
         println!("{}", checker.cleanings);
         println!("{}", checker.shares);
+        println!("{}", checker.trials);
         let long = long_runs(seed, (100 * last).min(MOST_BIDS));
+        long_trials(last);
         all_seen(&checker, last);
         let (granted, waited) = (checker.shares.releases, checker.shares.releases_spent);
         println!("in service {granted} bids that were to release something were granted, and {waited} waited for their share; none was busy or held");
@@ -85,6 +90,8 @@ fn shake(checker: &mut Checker, seed: u64, input: u64) {
     let random = &mut random;
     // Questions to plans draw from another one, so that they don't move what the other calls are made with.
     let mut asking = Random::new(!seed, input);
+    // And so do trials.
+    let mut trying = Random::new(seed ^ TRIALS, input);
     let words = cases::words(random, input);
     let worked = Worked::new(&words);
     checker.input = format!("to see it again: shake replay {seed} {input}");
@@ -92,7 +99,10 @@ fn shake(checker: &mut Checker, seed: u64, input: u64) {
     questions::of_no_set(checker, &mut asking);
     cleaning::of_list(checker, random, &words, &worked);
     match &worked.set {
-        Err(_) => refused(checker, random, &words, &worked),
+        Err(_) => {
+            refused(checker, random, &words, &worked);
+            trials::of_no_set(checker, &mut trying, &words, &worked);
+        }
         Ok(set) => {
             checker.sets.count(&words, &worked);
             analyses(checker, random, &words, &worked);
@@ -115,13 +125,18 @@ fn shake(checker: &mut Checker, seed: u64, input: u64) {
             let record = cases::record(random, set, &worked.map, settings);
             checker.again(random, &words, &worked, record);
             questions::of_set(checker, &mut asking, &worked, set);
+            trials::of_set(checker, &mut trying, &words, &worked, set);
             if let Some((old, worked)) = cleaning::and_back(checker, random, &words) {
                 checker.read(random, &old, &worked);
                 refused(checker, random, &old, &worked);
+                trials::of_no_set(checker, &mut trying, &old, &worked);
             }
             // Of one set in four, for the time that it takes.
             if random.one_in(4) {
                 checker.package(&words, package::check(random, &words, &worked, set));
+            }
+            if trying.one_in(16) {
+                checker.package(&words, package::check_trials(&mut trying, &words, &worked, set));
             }
         }
     }
@@ -245,11 +260,23 @@ fn long_runs(seed: u64, bids: u64) -> u64 {
     long.iter().map(|done| done.bids).sum()
 }
 
+/// Trials of very many bids, so that every tally and the total pass 16 bits. The longest that there are, which take longer, have the tests of the package and the header.
+fn long_trials(inputs: u64) {
+    let rounds = (inputs / 25).clamp(800, 65_535) as u16;
+    for (what, words, lent) in trial_cases::long(rounds) {
+        let bids = trials::long(&words, &lent).unwrap_or_else(|difference| {
+            println!("DIFFERS: a trial of {rounds} rounds, {what}: {difference}");
+            std::process::exit(1);
+        });
+        println!("one trial, {what}: {bids} bids");
+    }
+}
+
 fn calls(seen: &Seen) -> u64 {
     seen.kinds.iter().flatten().sum()
 }
 
-const KINDS: [&str; 14] = [
+const KINDS: [&str; 15] = [
     "refused",
     "accepted",
     "planned",
@@ -264,6 +291,7 @@ const KINDS: [&str; 14] = [
     "neither",
     "cleaned",
     "share spent",
+    "tried",
 ];
 
 fn print_table(seen: &Seen) {
@@ -275,13 +303,13 @@ fn print_table(seen: &Seen) {
     for (kind, name) in KINDS.iter().enumerate() {
         line(name, std::array::from_fn(|call| seen.kinds[call][kind]));
     }
-    for number in 1..27 {
+    for number in 1..28 {
         line(&format!("refused {number}"), std::array::from_fn(|call| seen.refusals[call][number]));
     }
 }
 
-/// Every answer that docs/SCOPE.md gives a call, every sort of dead states, of parts per thousand and of shares, every fault of a plan and every sort of list to clean must
-/// have come, or the run shows less than it says. 15 is the printer's alone.
+/// Every answer that docs/SCOPE.md gives a call, every sort of dead states, of parts per thousand, of shares and of trials, every fault of a plan and every sort of list to
+/// clean must have come, or the run shows less than it says. 15 is the printer's alone.
 fn all_seen(checker: &Checker, inputs: u64) {
     let seen = &checker.seen;
     const OF_A_SET: [usize; 13] = [1, 2, 3, 4, 5, 6, 7, 8, 9, 10, 11, 12, 24];
@@ -294,8 +322,10 @@ fn all_seen(checker: &Checker, inputs: u64) {
         (&[3], &[13, 16, 18, 20, 21], &OF_A_SET),
         (&[9, 10, 11], &[22, 23], &[]),
         (&[12], &[25], &OF_A_SET[..12]),
+        (&[14], &[13, 16, 18, 26, 27], &OF_A_SET),
     ];
     let mut missing: Vec<String> = checker.sets.missing().chain(checker.parts.missing()).chain(checker.shares.missing()).collect();
+    missing.extend(checker.trials.missing());
     missing.extend(checker.cleanings.missing(1 + inputs / 2000));
     for ((name, _), _) in FAULTS.iter().zip(checker.asked.faults).filter(|(_, count)| *count == 0) {
         missing.push(format!("a plan with the fault {name}"));

@@ -1,11 +1,12 @@
-//! What the package for Rust makes of an accepted set, held to the reference: the set's parts and states, the plan's boxes, an analysis that finds its own room, and a
-//! short service; and what it makes of any list that is to be cleaned.
+//! What the package for Rust makes of an accepted set, held to the reference: the set's parts and states, the plan's boxes, an analysis that finds its own room, a
+//! short service, and trials; and what it makes of any list that is to be cleaned.
 
 use crate::cases;
 use crate::random::Random;
 use crate::reference::{held_after, Action, Answer, Refusal, Set, State, Worked};
 use crate::stored_plan;
-use arbiter::{Analysed, BidAnswer, BoxKind, Location, PerThousand, Plan, Record, Refused, Service, Settings};
+use crate::trial_cases::{self, Lent};
+use arbiter::{Analysed, BidAnswer, BoxKind, Location, PerThousand, Plan, Record, Refused, Service, Settings, Tally, Trial};
 use std::fmt::Debug;
 
 const STATES: usize = 3; // looked at of each set
@@ -29,6 +30,51 @@ pub fn check(random: &mut Random, words: &[u32], worked: &Worked, set: &Set) -> 
         location(analysed.plan(), &cases::record(random, set, &worked.map, settings).positions, set.tasks.len())?;
     }
     service(random, analysed, worked, set)
+}
+
+/// Trials of one set: on any map by the plain call, and on its own; those that are accepted are also held to the package's own bids.
+pub fn check_trials(random: &mut Random, words: &[u32], worked: &Worked, set: &Set) -> Result<(), String> {
+    let analysed = Analysed::new(words).map_err(|refused| refused.to_string())?;
+    let lent = trial_cases::any(random, worked, set);
+    let Lent { map, order, rounds, settings } = &lent;
+    let package_settings = Settings::new(settings.share, settings.window);
+    same("trial on any map", arbiter::plain::trial(words, map, order, *rounds, package_settings), expected_trial(worked, map, &lent))?;
+    let trial = analysed.trial(order, *rounds, package_settings);
+    same("trial", trial, expected_trial(worked, &worked.map, &lent))?;
+    match trial {
+        Err(_) => Ok(()),
+        Ok(trial) => same("trial's bids one by one", bid_by_bid(analysed, order, trial.made, package_settings)?, trial),
+    }
+}
+
+/// What the reference answers to a trial on this map.
+fn expected_trial(worked: &Worked, map: &[u8], lent: &Lent) -> Result<Trial, Refused> {
+    let trial = worked.trial(map, &lent.order, lent.rounds, lent.settings);
+    match trial.answer {
+        Answer::Tried(made) => {
+            let rows = trial.rows.map(|row| Tally { granted: row.granted, busy: row.busy, held: row.held, share_spent: row.share_spent });
+            Ok(Trial { made, rows, finished: trial.finished })
+        }
+        Answer::Refused(refusal) => Err(Refused { refusal: (refusal.number as u8).try_into().unwrap(), place: refusal.place as usize }),
+        answer => panic!("a trial is answered {answer:?}"),
+    }
+}
+
+/// So many bids down the order again and again, in a service, and their answers counted.
+fn bid_by_bid(analysed: Analysed, order: &[u8], bids: u64, settings: Settings) -> Result<Trial, String> {
+    let mut service = Service::start(analysed);
+    let mut trial = Trial { made: bids, rows: [Tally::default(); 8], finished: 0 };
+    for &task in order.iter().cycle().take(bids as usize) {
+        let row = &mut trial.rows[task as usize];
+        match service.bid(task as usize, settings).map_err(|refused| refused.to_string())? {
+            BidAnswer::Granted => row.granted += 1,
+            BidAnswer::Busy { .. } => row.busy += 1,
+            BidAnswer::Held { .. } => row.held += 1,
+            BidAnswer::ShareSpent => row.share_spent += 1,
+            BidAnswer::Finished => trial.finished += 1,
+        }
+    }
+    Ok(trial)
 }
 
 /// The same for a list, good or bad, that is to be cleaned.

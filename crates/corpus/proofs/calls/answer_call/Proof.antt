@@ -24,6 +24,9 @@ cast-next c = search needs
 cast-next-2 : tie.Need-cast-next-2
 cast-next-2 c = search needs
 
+cast-next-3 : tie.Need-cast-next-3
+cast-next-3 c = search needs
+
 slice-aggregate-show-route : tie.Need-slice-aggregate-show-route
 slice-aggregate-show-route c = sym (length-take-le _ _ (omega arith))
 
@@ -63,6 +66,9 @@ returns-5 c = search needs
 returns-6 : tie.Need-returns-6
 returns-6 c = search needs
 
+returns-7 : tie.Need-returns-7
+returns-7 c = search needs
+
 pub answer-call-spec : {M : Type 1} → statement M
 answer-call-spec =
     tie.close
@@ -73,6 +79,7 @@ answer-call-spec =
     counted-requires
     cast-next
     cast-next-2
+    cast-next-3
     slice-aggregate-show-route
     slice-aggregate-show-route-2
     cast-show-route
@@ -85,4 +92,5 @@ answer-call-spec =
     returns-3
     returns-4
     returns-5
-    returns-6)
+    returns-6
+    returns-7)

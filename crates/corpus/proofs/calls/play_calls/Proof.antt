@@ -1,4 +1,4 @@
--- `corpus::calls::play_calls` meets its contract. The invariant: the number of calls fits its type, and set, map and plan slice keep their lengths. A call's four words lie within the list.
+-- `corpus::calls::play_calls` meets its contract. The invariant: the number of calls fits its type, and set, map, plan slice and the order's slice keep their lengths. A call's four words lie within the list.
 use mathlib.Core.Path.{_≡_, refl}
 use Prim.Native.Nat.{_-_, _<_}
 use native.Mathlib.Omega.{arith}
@@ -8,17 +8,18 @@ use Rattle.corpus.proofs.calls.play_calls.Statement.{statement}
 use Rattle.corpus.proofs.calls.play_calls.Tie as tie
 
 abbrev Inv-loop : tie.InvT-loop
-Inv-loop set₀ words list map₀ plan₀ play₀ calls k₀ set map plan play k =
+Inv-loop set₀ words list map₀ plan₀ order₀ play₀ calls k₀ set map plan order play k =
     (calls < 18446744073709551616) × (length set ≡ length set₀) × (length map ≡ length map₀) × (length plan ≡ length plan₀)
+    × (length order ≡ length order₀)
 
 abbrev μ-loop : tie.MeasureT-loop
-μ-loop set₀ words list map₀ plan₀ play₀ calls k₀ set map plan play k = calls - k
+μ-loop set₀ words list map₀ plan₀ order₀ play₀ calls k₀ set map plan order play k = calls - k
 
 fresh-requires : tie.Need-fresh-requires Inv-loop μ-loop
 fresh-requires c κs = search needs
 
 loop-holds : tie.Need-loop-holds Inv-loop μ-loop
-loop-holds c = (omega arith, refl, refl, refl)
+loop-holds c = (omega arith, refl, refl, refl, refl)
 
 mul-call-at : tie.Need-mul-call-at Inv-loop μ-loop
 mul-call-at c = omega arith
@@ -47,6 +48,9 @@ same-length-2 c = search needs
 same-length-3 : tie.Need-same-length-3 Inv-loop μ-loop
 same-length-3 c = search needs
 
+same-length-4 : tie.Need-same-length-4 Inv-loop μ-loop
+same-length-4 c = search needs
+
 returns : tie.Need-returns Inv-loop μ-loop
 returns c = search needs
 
@@ -67,4 +71,5 @@ play-calls-spec =
     same-length
     same-length-2
     same-length-3
+    same-length-4
     returns)

@@ -1,0 +1,2 @@
+-- What the trial promises: auditors read Says.
+pub mod Says
