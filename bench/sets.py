@@ -7,8 +7,8 @@ import struct
 import sys
 
 
-def claim(d):
-    return 0x30000000 | d
+def claim(d, units=1):
+    return 0x30000000 | (units - 1) << 16 | d
 
 
 def release(d):
@@ -140,7 +140,38 @@ def tangled(seed, tasks, length, devices):
 
 def spread(tasks):
     """The tasks with every device number doubled: of twice as many devices every other one is claimed by nobody."""
-    return [[action & 0xF0000000 | 2 * (action & 15) for action in task] for task in tasks]
+    return [[action & 0xFFFF0000 | 2 * (action & 15) for action in task] for task in tasks]
+
+
+# --- Claims of several units ---
+
+
+def in_turn(n, units):
+    """n claims and releases of device 0, of so many units in turn."""
+    return [a for i in range(n) for a in (claim(0, units[i % len(units)]), release(0))]
+
+
+def crossed_units(n):
+    """Two devices of three units, and two tasks that cross n times each: they hold two units, or by turns all three, of one device and want two of the other's."""
+    def turn(i, first, second):
+        return [claim(first, 2 + i % 2), claim(second, 2), release(second), release(first)]
+    return [3, 3], [[a for i in range(n) for a in turn(i, *devices)] for devices in ((0, 1), (1, 0))]
+
+
+def units_ring(n, m):
+    """A pool of four units, and three tasks that wait in a ring. The first wants three of the pool, for which it waits for the second alone, though the third has some of it
+    too; the third is in the ring for another device. The third goes round m times, the others n times."""
+    first = [claim(1), claim(0, 3), release(0), release(1)]
+    third = [claim(2), claim(0), claim(1), release(1), release(0), release(2)]
+    second = [claim(0, 2), claim(2), release(2), release(0)]
+    return [4, 1, 1], [pairs(n, first), pairs(m, third), pairs(n, second)]
+
+
+def tangled_units(seed, tasks, length, devices, capacity):
+    """As tangled, of devices of several units: each claim takes one to all of them at random."""
+    rng = random.Random(seed)
+    with_units = lambda action: claim(action & 15, rng.randint(1, capacity)) if action >> 28 == 3 else action
+    return [capacity] * devices, [[with_units(action) for action in random_task(rng, devices, length)] for _ in range(tasks)]
 
 
 def named(tasks):
@@ -191,6 +222,22 @@ for tasks, length, devices, seeds in [(3, 38, 2, [1, 4]), (3, 38, 4, [2, 6]), (3
         save("tangled_%d_%d_%d" % (tasks, devices, seed), *tangled(seed, tasks, length, devices))
 save("nested", *nested([turned(15, 0), turned(15, 5), turned(15, 10)], 4))
 
+# Claims of several units. Two tasks that claim two units of three 127 times: as many forbidden boxes as one_device has.
+save("units_two_of_three", [3], [in_turn(127, [2])] * 2)
+# Three tasks over a gateway of three channels, 19 times each, one to three channels in turn: forbidden boxes of two tasks and of three that overlap.
+save("units_gateway", [3], [in_turn(19, units) for units in ([1, 2, 3], [2, 3, 1], [1, 1, 2])])
+# Eight tasks of one to four units of eight: forbidden boxes of three to five tasks.
+save("units_pool8", [8], [in_turn(1, [units]) for units in (1, 2, 3, 4, 1, 2, 3, 4)])
+# Two tasks that cross 63 times: 3,969 unsafe boxes, as crossings has.
+save("units_crossings", *crossed_units(63))
+# Three to five tasks at random over devices of three or four units, so that the holders of a device are more than its first forbidden box needs.
+save("units_tangled_3_4", *tangled_units(2, 3, 38, 4, 3))
+save("units_tangled_5_2", *tangled_units(3, 5, 8, 2, 4))
+# 486 rings of three tasks, with unsafe boxes that depend on which of the holders a task waits for.
+save("units_rings", *units_ring(9, 6))
+# 16 devices of two units, which two tasks claim whole, one after the other.
+save("units_devices16", [2] * 16, [[a for d in range(16) for a in (claim(d, 2), release(d))]] * 2)
+
 # --- Cleaning ---
 
 # Example a with four devices, of which device 1 and device 3 are claimed by nobody.
@@ -199,6 +246,8 @@ save("clean/a_spread", [1] * 4, spread([[claim(0), claim(1), release(1), release
 save("clean/longest_spread", [1] * 16, spread([[]] * 3 + [[a for i in range(127) for a in (claim(i % 8), release(i % 8))]] * 2 + [[]] * 3))
 # Eight tasks, and 15 of 16 devices go.
 save("clean/pool8_of_16", [1] * 15 + [3], [[claim(15), release(15)]] * 8)
+# Two tasks of 254 actions that claim two to four units of every other one of 16 devices.
+save("clean/units_spread", [4] * 16, spread([[a for i in range(127) for a in (claim(i % 8, 2 + i % 3), release(i % 8))]] * 2))
 
 # --- Trials ---
 

@@ -34,12 +34,12 @@
 
 /* The version of this header: major times 10,000, minor times 100, patch. Header and library must be of the same one, since structs and
  * numbers may differ between two: compare it with arbiter_version() once, when the host starts, and stop if they differ. */
-#define ARBITER_VERSION 50100
+#define ARBITER_VERSION 60000
 
 /* The limits of a set. */
 #define ARBITER_MAX_WORDS 4096
 #define ARBITER_MAX_DEVICES 16
-#define ARBITER_MAX_CAPACITY 8
+#define ARBITER_MAX_CAPACITY 8  /* units of one device */
 #define ARBITER_MAX_TASKS 8     /* also the number of positions in a record and in a state, of counts in a record, and of rows in a trial's result */
 #define ARBITER_MAX_ACTIONS 255 /* claims and releases of one task */
 #define ARBITER_MAX_GRID 65536  /* states: a map slice of this many bytes fits every set */
@@ -53,15 +53,25 @@
 /* A word is its kind times this, plus its field: word / ARBITER_FIELDS is the kind, word % ARBITER_FIELDS the field. */
 #define ARBITER_FIELDS 0x10000000
 
+/* A CLAIM's field is its extra units, a number less than ARBITER_EXTRA_UNITS, times ARBITER_DEVICES, plus its device: field % ARBITER_DEVICES is the
+ * device, field / ARBITER_DEVICES the extra units. */
+#define ARBITER_DEVICES 0x10000
+#define ARBITER_EXTRA_UNITS 0x100
+
 /* The kinds of a set's words; a plan ends with END too. */
-#define ARBITER_DEVICE 1  /* field: how many tasks may hold it at once, 1 to 8; some task claims it */
+#define ARBITER_DEVICE 1  /* field: its capacity, 1 to 8, which is how many units it has; some task claims it */
 #define ARBITER_TASK 2    /* field: 0 */
-#define ARBITER_CLAIM 3   /* field: the device */
-#define ARBITER_RELEASE 4 /* field: the device */
+#define ARBITER_CLAIM 3   /* field: bits 27 to 24 are 0, 23 to 16 the extra units, 15 to 0 the device */
+#define ARBITER_RELEASE 4 /* field: the device; all units of it that the task holds are given back */
 #define ARBITER_END 5     /* field: the number of words before it */
 
+/* A claim takes one unit of its device and the extra units besides, all of them together; with 0 extra ones it is of one unit. A radio patch needs two
+ * channels of a gateway together. If the gateway is device 0, 0x10000003 declares its three channels, 0x30010000 claims two of them, one and one extra,
+ * and 0x40000000 gives both back; 0x30000000 claims one, for a call. At no time are more units of a device held than it has: beside the patch there is
+ * room for one call, and another patch waits (BUSY) while fewer than two channels are free. A claim of four would be refused with 28. */
+
 /* The kinds of a plan's words. */
-#define ARBITER_FORBIDDEN_BOX 6    /* field: the device that would have too many holders; a SIDE for each task follows */
+#define ARBITER_FORBIDDEN_BOX 6    /* field: the device that would have more units held than it has; a SIDE for each task follows */
 #define ARBITER_UNSAFE_BOX 7       /* field: 0; a SIDE for each task follows */
 #define ARBITER_SIDE 8             /* field: bits 23 to 16 the task, 15 to 8 its lowest, 7 to 0 its highest position in the box */
 #define ARBITER_DEAD_STATE 9       /* field: the rank of a dead state to which allowed steps lead from the start */
@@ -69,7 +79,7 @@
 
 /* The map's bytes. */
 #define ARBITER_OPEN 0      /* the end can be reached from this state */
-#define ARBITER_FORBIDDEN 1 /* some device would have too many holders */
+#define ARBITER_FORBIDDEN 1 /* some device would have more units held than it has */
 #define ARBITER_UNSAFE 2    /* no steps lead from here to the end */
 #define ARBITER_DEAD 3      /* unsafe, and no task can make a step */
 
@@ -91,7 +101,7 @@
 #define ARBITER_ROUTED 3           /* arbiter_route: the route is written; value: its length */
 #define ARBITER_GRANTED 4          /* arbiter_bid: the task makes its next action now; the record has moved on by it */
 #define ARBITER_FINISHED 5         /* arbiter_bid: the task has no action left; don't ask for it before arbiter_again */
-#define ARBITER_BUSY 6             /* arbiter_bid: the task waits and asks again later; value: the device that is in use */
+#define ARBITER_BUSY 6             /* arbiter_bid: the task waits and asks again later; value: the device of which too few units are free, without the units */
 #define ARBITER_HELD 7             /* arbiter_bid: the task waits and asks again later, or tasks would wait for ever; value: the unsafe next state's rank */
 #define ARBITER_RESTARTED 8        /* arbiter_again: every task is at its start again */
 #define ARBITER_IN_FORBIDDEN_BOX 9 /* arbiter_locate: a forbidden box holds the state; value: the index of the first word of the first that does */
@@ -101,7 +111,7 @@
 #define ARBITER_SHARE_SPENT 13     /* arbiter_bid: the task waits and asks again later: it has had its share, and another task is to go first */
 #define ARBITER_TRIED 14           /* arbiter_trial: the bids are made and counted; value: how many they were; beside it how they were answered */
 
-/* The refusals of a set, 1 to 12 and 24. The place is the faulty word's index, counted from 0, unless said otherwise.
+/* The refusals of a set, 1 to 12, 24 and 28. The place is the faulty word's index, counted from 0, unless said otherwise.
  * All are the set's fault, and each comes in the same way from every call that is lent that set: return it to its author. Only arbiter_clean
  * never brings 24, which it mends. */
 #define ARBITER_NO_WORDS 1            /* place: 0 */
@@ -109,7 +119,7 @@
 #define ARBITER_WORD_AFTER_END 3
 #define ARBITER_UNKNOWN_KIND 4
 #define ARBITER_OUT_OF_ORDER 5        /* a DEVICE after a TASK; a CLAIM, RELEASE or END before any */
-#define ARBITER_FIELD_NOT_ALLOWED 6
+#define ARBITER_FIELD_NOT_ALLOWED 6   /* a CLAIM's, if its device isn't declared or a bit from 27 to 24 is set */
 #define ARBITER_TOO_MANY 7            /* the 17th device, 9th task, or 256th action of a task */
 #define ARBITER_CLAIM_OF_HELD 8
 #define ARBITER_RELEASE_OF_NOT_HELD 9
@@ -117,6 +127,7 @@
 #define ARBITER_NO_END 11             /* place: the number of words */
 #define ARBITER_GRID_TOO_LARGE 12     /* place: END's index */
 #define ARBITER_UNCLAIMED_DEVICE 24   /* place: the number of the lowest device that no task claims; looked at after 11 and before 12 */
+#define ARBITER_TOO_MANY_UNITS 28     /* a CLAIM of more units than the device has; looked at after 7 and before 8 */
 
 /* The refusals of lent slices, input bytes, records and calls. */
 #define ARBITER_MAP_TOO_SHORT 13   /* place: the length that the map needs; lend that much */
@@ -258,11 +269,11 @@ extern "C" {
 /* The library's own version; see ARBITER_VERSION. */
 ARBITER_MUST_USE uint32_t arbiter_version(void);
 
-/* Reads a set. ACCEPTED with its number of states, or REFUSED 1 to 12 or 24.
+/* Reads a set. ACCEPTED with its number of states, or REFUSED 1 to 12, 24 or 28.
  * A set that may be empty: ARBITER_LEND(set). */
 ARBITER_MUST_USE arbiter_answer arbiter_read(const uint32_t *set, size_t set_len);
 
-/* Analyses a set. PLANNED with the number of plan words, and with the parts per thousand beside it; or REFUSED 1 to 14 or 24.
+/* Analyses a set. PLANNED with the number of plan words, and with the parts per thousand beside it; or REFUSED 1 to 14, 24 or 28.
  * Accepted: map[0] to map[states - 1] and the plan's words are written; what lies beyond stays as it was, and isn't counted either.
  * 14 leaves the finished map, and zeros in the whole plan slice; the others leave both slices untouched.
  * Fill the map slice with ARBITER_NOT_ANALYSED before. A host that wants no plan lends 0 words for it and goes on at 14; if it wants the parts per
@@ -275,7 +286,7 @@ ARBITER_MUST_USE arbiter_analysis arbiter_analyse(const uint32_t *set, size_t se
 ARBITER_MUST_USE arbiter_record arbiter_fresh(void);
 
 /* May this task make its next action? GRANTED (the record then counts it as made), FINISHED, BUSY with the device, HELD with the next
- * state's rank, SHARE_SPENT, or REFUSED 1 to 13, 16, 17, 18, 24 or 26. Only GRANTED changes the record.
+ * state's rank, SHARE_SPENT, or REFUSED 1 to 13, 16, 17, 18, 24, 26 or 28. Only GRANTED changes the record.
  * share and window are 1 to 255 each, else it is 26. A grant adds 1 to the task's count; if the counts then add up to the window, all of them become
  * 0 with that same grant. A bid that would be granted is SHARE_SPENT instead if the task's count is the share or more, and another task, whose count
  * is less than the share, would be granted now. So another task is to go first: with the same share the answer stays the same until one is granted
@@ -286,13 +297,13 @@ ARBITER_MUST_USE arbiter_record arbiter_fresh(void);
 ARBITER_MUST_USE arbiter_answer arbiter_bid(arbiter_record *record, const uint32_t *set, size_t set_len, const uint8_t *map, size_t map_len,
                                             size_t task, uint32_t share, uint32_t window);
 
-/* Starts every task anew once all are finished; the grant number stays, and the counts become 0. RESTARTED, or REFUSED 1 to 12, 16, 19 or 24, which
- * changes nothing. 16 comes for positions and counts that the set doesn't have; there is no window here to hold the counts to.
+/* Starts every task anew once all are finished; the grant number stays, and the counts become 0. RESTARTED, or REFUSED 1 to 12, 16, 19, 24 or 28,
+ * which changes nothing. 16 comes for positions and counts that the set doesn't have; there is no window here to hold the counts to.
  * A set that may be empty: ARBITER_LEND(set). */
 ARBITER_MUST_USE arbiter_answer arbiter_again(arbiter_record *record, const uint32_t *set, size_t set_len);
 
 /* The steps from the record's state to the end, one byte a step: always the lowest task that can go on. ROUTED with their number, or
- * REFUSED 1 to 13, 16, 18, 20, 21 or 24. 16 comes for positions and counts that the set doesn't have, and if the state is forbidden in the map.
+ * REFUSED 1 to 13, 16, 18, 20, 21, 24 or 28. 16 comes for positions and counts that the set doesn't have, and if the state is forbidden in the map.
  * A route looks at no shares, so a bid on the way that it shows may still be SHARE_SPENT. A route slice of set_len bytes is always long enough. The
  * bytes beyond the route stay as they were; a refusal fills the whole slice with ARBITER_NO_STEP.
  * Slices that may be empty: ARBITER_LEND(set), ARBITER_LEND(map), ARBITER_LEND(route). */
@@ -310,9 +321,9 @@ ARBITER_MUST_USE arbiter_answer arbiter_route(arbiter_record record, const uint3
 ARBITER_MUST_USE arbiter_answer arbiter_locate(arbiter_state state, const uint32_t *plan, size_t plan_len, size_t tasks);
 
 /* Writes the set again without the devices that no task claims, for sets that were stored before 24 was a refusal; the others are numbered anew,
- * from 0 in their old order. CLEANED with the number of words written, or REFUSED 1 to 12, by the rules that had no 24, or 25, the last.
+ * from 0 in their old order. CLEANED with the number of words written, or REFUSED 1 to 12 or 28, by the rules that had no 24, or 25, the last.
  * A slice of set_len words is always long enough. The words beyond the cleaned set stay as they were; a refusal leaves the whole slice untouched.
- * arbiter_read accepts what is written. Tasks and actions stay, and each device that is kept has its capacity and its claims. So the cleaned set has
+ * arbiter_read accepts what is written. Tasks and actions stay, and each device that is kept has its capacity and its claims, with their units. So the cleaned set has
  * the old one's map, byte for byte, and a record goes on with it; BUSY and the plan's forbidden boxes tell the new device numbers. A set that has no
  * such device comes back word for word.
  * Slices that may be empty: ARBITER_LEND(set), ARBITER_LEND(clean). */
@@ -322,7 +333,7 @@ ARBITER_MUST_USE arbiter_answer arbiter_clean(const uint32_t *set, size_t set_le
  * tasks' numbers, round after round, so many rounds. It looks before each bid whether every task is finished, and stops there early. A task that stands
  * in the order twice bids twice in each round; one that doesn't stand there never bids, and others may wait for it all the time.
  * TRIED with the number of bids made, and beside it how they were answered: a row for each task, and the bids answered FINISHED together. Or REFUSED 1
- * to 13, 24, 26 or 27, whatever rounds is, or 16 or 18 where a bid is refused, which ends the trial without rows: both only for a map that isn't the
+ * to 13, 24, 26, 27 or 28, whatever rounds is, or 16 or 18 where a bid is refused, which ends the trial without rows: both only for a map that isn't the
  * set's own. The order has 1 to 255 tasks of the set, each as often as wanted. With no rounds, or a set without actions, no bid is made.
  * Nothing lent is changed, and no record is lent, so it may be made at any time, in service too.
  * rounds has 16 bits: a larger number must not be cut on its way into the call. 65,535 rounds of 255 tasks are 16,711,425 bids, the most that a trial
@@ -351,6 +362,16 @@ static inline int arbiter_is_action(uint32_t word) {
     return arbiter_word_kind(word) == ARBITER_CLAIM || arbiter_word_kind(word) == ARBITER_RELEASE;
 }
 
+/* The device that a CLAIM or a RELEASE names: bits 15 to 0 of a CLAIM, whose units aren't part of it, and the whole field of a RELEASE. */
+static inline uint32_t arbiter_action_device(uint32_t action) {
+    return arbiter_word_kind(action) == ARBITER_CLAIM ? action % ARBITER_DEVICES : arbiter_word_field(action);
+}
+
+/* How many units a CLAIM takes: one, and the extra ones. 0 for any other word. */
+static inline uint32_t arbiter_claim_units(uint32_t action) {
+    return arbiter_word_kind(action) == ARBITER_CLAIM ? action / ARBITER_DEVICES % ARBITER_EXTRA_UNITS + 1 : 0;
+}
+
 /* How many of these words are of this kind. */
 static inline size_t arbiter_count(const uint32_t *words, size_t len, uint32_t kind) {
     size_t found = 0;
@@ -376,7 +397,7 @@ static inline size_t arbiter_device_count(const uint32_t *set, size_t set_len) {
  * number of such a one is how many of the devices before it are claimed. */
 static inline int arbiter_is_claimed(const uint32_t *set, size_t set_len, size_t device) {
     for (size_t i = 0; i < set_len; i++) {
-        if (arbiter_word_kind(set[i]) == ARBITER_CLAIM && arbiter_word_field(set[i]) == device) return 1;
+        if (arbiter_word_kind(set[i]) == ARBITER_CLAIM && arbiter_action_device(set[i]) == device) return 1;
     }
     return 0;
 }
@@ -415,26 +436,32 @@ static inline uint32_t arbiter_window_grants(const arbiter_record *record) {
     return grants;
 }
 
-/* What the task was granted last: right after GRANTED, the CLAIM or RELEASE to make now, with its device as the field. 0 at the task's start. */
+/* What the task was granted last: right after GRANTED, the CLAIM or RELEASE to make now; arbiter_action_device and arbiter_claim_units say of what. 0 at
+ * the task's start. */
 static inline uint32_t arbiter_last_action(const arbiter_record *record, const uint32_t *set, size_t set_len, size_t task) {
     return arbiter_action(set, set_len, task, arbiter_done(record, task));
 }
 
-/* What the task's next bid asks for: a CLAIM or RELEASE, with its device as the field. 0 if the task is finished. */
+/* What the task's next bid asks for: a CLAIM or RELEASE. 0 if the task is finished. */
 static inline uint32_t arbiter_next_action(const arbiter_record *record, const uint32_t *set, size_t set_len, size_t task) {
     return arbiter_action(set, set_len, task, arbiter_done(record, task) + 1);
 }
 
-/* 1 if the task holds the device in the record's state, 0 if not. */
-static inline int arbiter_holds(const arbiter_record *record, const uint32_t *set, size_t set_len, size_t task, size_t device) {
-    int held = 0;
+/* How many units of the device the task holds in the record's state: those of its last claim, 0 if it has released them since or never claimed any. */
+static inline uint32_t arbiter_units(const arbiter_record *record, const uint32_t *set, size_t set_len, size_t task, size_t device) {
+    uint32_t units = 0;
     size_t first = arbiter_actions_at(set, set_len, task);
     size_t actions = arbiter_action_count(set, set_len, task);
     for (size_t i = 0; i < actions && i < arbiter_done(record, task); i++) {
         uint32_t action = set[first + i];
-        if (arbiter_word_field(action) == device) held = arbiter_word_kind(action) == ARBITER_CLAIM;
+        if (arbiter_action_device(action) == device) units = arbiter_claim_units(action);
     }
-    return held;
+    return units;
+}
+
+/* 1 if the task holds the device in the record's state, 0 if not. */
+static inline int arbiter_holds(const arbiter_record *record, const uint32_t *set, size_t set_len, size_t task, size_t device) {
+    return arbiter_units(record, set, set_len, task, device) > 0;
 }
 
 /* How many tasks hold the device in the record's state. */
@@ -444,6 +471,13 @@ static inline size_t arbiter_holder_count(const arbiter_record *record, const ui
         if (arbiter_holds(record, set, set_len, task, device)) holders++;
     }
     return holders;
+}
+
+/* How many units of the device are held in the record's state, by all tasks together. In service never more than its capacity. */
+static inline uint32_t arbiter_units_in_use(const arbiter_record *record, const uint32_t *set, size_t set_len, size_t device) {
+    uint32_t units = 0;
+    for (size_t task = 0; task < ARBITER_MAX_TASKS; task++) units += arbiter_units(record, set, set_len, task, device);
+    return units;
 }
 
 /* The rank of the state with these positions. */
@@ -534,7 +568,7 @@ static inline const char *arbiter_refusal_text(uint32_t refusal) {
     case ARBITER_WORD_AFTER_END: return "a word follows END, which must be the last";
     case ARBITER_UNKNOWN_KIND: return "this word is no DEVICE, TASK, CLAIM, RELEASE or END: its kind isn't 1 to 5";
     case ARBITER_OUT_OF_ORDER: return "this word is out of order: devices come first, and a TASK before any CLAIM, RELEASE or END";
-    case ARBITER_FIELD_NOT_ALLOWED: return "the field isn't allowed: a capacity is 1 to 8, TASK has 0, an action names a declared device, END counts the words before it";
+    case ARBITER_FIELD_NOT_ALLOWED: return "the field isn't allowed: a capacity is 1 to 8, TASK has 0, an action names a declared device, only a CLAIM has units, END counts the words before it";
     case ARBITER_TOO_MANY: return "this is one too many: a set has at most 16 devices and 8 tasks, a task at most 255 claims and releases";
     case ARBITER_CLAIM_OF_HELD: return "the task claims a device that it holds already";
     case ARBITER_RELEASE_OF_NOT_HELD: return "the task releases a device that it doesn't hold";
@@ -556,6 +590,7 @@ static inline const char *arbiter_refusal_text(uint32_t refusal) {
     case ARBITER_CLEAN_TOO_SHORT: return "the cleaned set has more words than its slice";
     case ARBITER_BAD_SETTING: return "the share or the window is outside 1 to 255";
     case ARBITER_BAD_ORDER: return "the order of a trial is empty, names a task here that the set doesn't have, or goes on after 255 tasks";
+    case ARBITER_TOO_MANY_UNITS: return "the task claims more units than the device has: claim fewer, or give the device a larger capacity";
     default: return "no refusal has this number";
     }
 }

@@ -54,10 +54,11 @@ import functools
 import itertools
 import math
 import os
+import re
 import sys
 
 import brute
-from brute import CLAIM, DEVICE, END, FRESH, RELEASE, TASK, Record, Set, Settings, grid_of, lengths_of, word_bytes, words_of
+from brute import CLAIM, DEVICE, END, FRESH, RELEASE, TASK, Record, Set, Settings, claim, grid_of, lengths_of, word_bytes, words_of
 
 MAX_SET = 4097
 MAX_MAP = 65600
@@ -88,6 +89,9 @@ SHARE_SEED = 0x6661697273686172
 
 # Trials too.
 TRIAL_SEED = 0x747269616C736565
+
+# Sets with claims of several units too.
+UNIT_SEED = 0x756E697473656564
 
 HERE = os.path.dirname(os.path.abspath(__file__))
 FILES = [os.path.join(HERE, "..", "crates", "corpus", name) for name in ("stdin", "stdout")]
@@ -357,7 +361,7 @@ def tight_set(dice, limit):
 def with_device(s, place, capacity):
     """The set with one more device in that place, which no task claims; the devices from there on get the next number."""
     capacities = s.capacities[:place] + [capacity] + s.capacities[place:]
-    return Set(capacities, [[(kind, device + 1 if device >= place else device) for kind, device in task] for task in s.tasks])
+    return Set(capacities, [[(kind, device + 1 if device >= place else device, *units) for kind, device, *units in task] for task in s.tasks])
 
 
 def unclean_set(dice, limit):
@@ -400,7 +404,7 @@ def apart(lengths):
 
 
 # Sets in which a next state lies in several boxes and it counts which of them is the blocker: the devices' capacities, a digit each, and the tasks, with + for a
-# claim and - for a release. They are rare among random sets.
+# claim and - for a release; a claim of several units has them behind an x. They are rare among random sets.
 SEVERAL_BLOCKERS = [
     "111 +0+2+1-2-1+2-0-2 +1+2+0-0-2-1",
     "111 +1+0+2-0-2-1 +2+0+1-0-1+0-0-2",
@@ -446,8 +450,12 @@ ONLY_UNREACHED = [
 def written_set(text):
     """A set from that notation."""
     capacities, *tasks = text.split()
-    tasks = [[(CLAIM if task[i] == "+" else RELEASE, int(task[i + 1])) for i in range(0, len(task), 2)] for task in tasks]
-    return Set([int(capacity) for capacity in capacities], tasks)
+    return Set([int(capacity) for capacity in capacities], [written_task(task) for task in tasks])
+
+
+def written_task(text):
+    actions = re.findall("([+-])([0-9])(?:x([0-9]))?", text)
+    return [claim(int(device), int(units or 1)) if sign == "+" else (RELEASE, int(device)) for sign, device, units in actions]
 
 
 def with_idle(s):
@@ -993,9 +1001,9 @@ def refused_case(dice, words):
     return Case(words, long_map, long_plan, calls + own_plan_calls(s) if accepted and plan_length(s) <= long_plan else calls)
 
 
-def small_cases(dice):
-    """The random sets, one kind of calls each in turn."""
-    kinds = [
+def call_kinds(dice):
+    """The kinds of calls that random sets get, one each in turn."""
+    return [
         lambda s: random_calls(dice, s, dice.between(4, 24)),
         lambda s: random_calls(dice, s, dice.between(4, 24)),
         lambda s: edge_calls(dice, s),
@@ -1005,6 +1013,11 @@ def small_cases(dice):
         lambda s: short_route_calls(dice, s),
         lambda s: lend_calls(dice, s),
     ]
+
+
+def small_cases(dice):
+    """The random sets."""
+    kinds = call_kinds(dice)
     cases = []
     for number in range(1040):
         s = dice.pick([random_set, tight_set])(dice, dice.pick([60, 100, 200, 200, 300, 400, 600]))
@@ -1017,10 +1030,10 @@ def small_cases(dice):
     return cases
 
 
-def named_cases(dice):
-    """The known families, each with rounds that finish it, and then again."""
+def named_cases(dice, sets):
+    """Known sets, each with rounds that finish it, and then again."""
     cases = []
-    for s in named_sets():
+    for s in sets:
         rounds = round_calls(dice, s, sum(lengths_of(s)))
         cases.append(fitting(dice, s, rounds + [(AGAIN,), (ROUTE, min(MAX_ROUTE, sum(lengths_of(s))))] + random_calls(dice, s, 6)))
     return cases
@@ -1658,11 +1671,237 @@ def trial_cases(dice):
     return cases + endless_cases() + large_trial_cases(dice) + refused_trial_cases(dice)
 
 
+# --- Units ---
+
+# Sets with claims of several units, in the notation above: two radio patches and a call, boxes of two tasks and of three for one device, a state whose first box is of fewer
+# tasks than the first that exceed, holds of differing units in one task, and tasks that wait for each other's units.
+UNIT_SETS = [
+    "3 +0x2-0 +0x2-0 +0-0",
+    "2 +0x2-0+0-0 +0-0 +0-0",
+    "3 +0-0 +0x2-0 +0-0 +0x3-0",
+    "3 +0-0 +0-0 +0x3-0",
+    "5 +0x5-0+0-0+0x3-0 +0x2-0+0x4-0",
+    "33 +0x2+1x2-1-0 +1x2+0x2-0-1",
+    "43 +0x3+1-1-0 +1x3+0x2-0-1",
+    "33 +0+1x2-1-0 +1x2+0x3-0-1",
+    "222 +0x2+1-0-1 +1x2+2-1-2 +2x2+0-2-0",
+    "35 +0+1x3-0-1 +1x3+0-1-0 +0x2+1x2-1-0",
+    "8 +0-0 +0x8-0 +0x2-0 +0x7-0",
+    "18 +0+1x8-1-0 +1x8+0-0-1",
+]
+
+# Sets in which an unsafe box would be another if a blocker were the box of the first tasks by number that exceed, or the last box. They are very rare among random ones.
+UNIT_BLOCKERS = [
+    "255 +0x2+1x4-0-1 +2x5+1+0x2-0-1-2 +1x2+2x3-1-2",
+    "464 +0+2+1x6-1-2-0 +1x5+2x2-2-1 +1x2-1+2x3+0x4-0-2",
+    "654 +1x2+0x2+2x3-2-0-1 +1x3+2+0x6-0-2-1 +2x3+1x3-1-2",
+    "246 +2x5+0+1x3-1-2-0 +1x4+0+2-0-2-1 +2+0x2+1x2-0-2-1",
+    "446 +1x2+0+2x2-0-2-1 +1x2-1+0x2+1-1-0 +2x6+1x2+0x3-0-1-2",
+    "353 +2x2+1+0x3-2-1-0 +2-2 +0x2+1x4-1-0 +1x3+2x3-2-1",
+    "245 +2+1x3+0-1-2-0 +0+2x3+1x4-0-2-1 +1+0+2x2-0-2-1",
+]
+
+
+def unit_users(capacity, units):
+    """One device, and a task for each of these numbers that claims and releases it with so many units."""
+    return Set([capacity], [[claim(0, count), (RELEASE, 0)] for count in units])
+
+
+def unit_sets():
+    """Those sets; every choice of units of a device of capacity 3 for three tasks, falling and rising ones of the largest capacity for six."""
+    sets = [written_set(text) for text in UNIT_SETS + UNIT_BLOCKERS]
+    sets += [unit_users(3, units) for units in itertools.product((1, 2, 3), repeat=3)]
+    return sets + [unit_users(8, units) for units in ((1, 2, 3, 4, 5, 6), (6, 5, 4, 3, 2, 1), (4, 4, 1, 1, 4, 8), (8, 1, 7, 2, 6, 3))]
+
+
+def some_units(dice, capacity):
+    """A number of units that a device of this capacity has; often one, or all."""
+    return dice.pick([1, capacity, dice.between(1, capacity), dice.between(1, capacity)])
+
+
+def with_units(dice, s):
+    """The set with other capacities, and other units in its claims."""
+    capacities = [dice.pick([1, 2, 2, 3, 3, 4, 5, 8]) for _ in s.capacities]
+    tasks = [[claim(device, some_units(dice, capacities[device])) if kind == CLAIM else (kind, device) for kind, device in task] for task in s.tasks]
+    return Set(capacities, tasks)
+
+
+def unit_set(dice, limit):
+    """A random set with units whose grid is at most `limit`."""
+    return with_units(dice, random_set(dice, limit))
+
+
+def tight_unit_set(dice, limit):
+    """Of eight random sets with units the first with an unsafe state that is not dead, or else the last."""
+    for _ in range(8):
+        s = with_units(dice, deep_set(dice, limit))
+        if brute.UNSAFE in brute.map_of(s):
+            break
+    return s
+
+
+def box_sizes(s):
+    """For each device how many tasks meet in its forbidden boxes: the numbers that there are. A side that is a hold begins after 0."""
+    sizes = [set() for _ in s.capacities]
+    for device, box in brute.forbidden_boxes(s):
+        sizes[device].add(sum(low > 0 for low, _ in box))
+    return sizes
+
+
+def sized_set(dice, limit):
+    """A random set with units that has a device with boxes of several sizes."""
+    while True:
+        s = with_units(dice, wide_set(dice, limit))
+        if any(len(sizes) > 1 for sizes in box_sizes(s)):
+            return s
+
+
+def unclean_unit_set(dice, limit):
+    return with_units(dice, unclean_set(dice, limit))
+
+
+def shared_unit_set(dice, limit):
+    """A clean random set with units and an open state in which two tasks or more would be granted."""
+    while True:
+        s = brute.cleaned(unit_set(dice, limit))
+        if forks_of(s):
+            return s
+
+
+def one_claim(capacity, units, device=0):
+    """The words of a set with one task, which claims a device with so many units and releases it."""
+    return words_of([1] * device + [capacity], [[claim(device, units), (RELEASE, device)]])
+
+
+# What a CLAIM can be refused with, the first that counts in front.
+CLAIM_FAULTS = (5, 6, 7, 28, 8)
+
+
+def claim_with(faults, unused=1):
+    """Words whose last is a CLAIM of device 0 with these of its faults: 6 for unused bits, 28 for four units of three. Before any TASK nothing is held, and no action is
+    the 256th."""
+    held = [CLAIM << 28] if 8 in faults else []
+    others = [CLAIM << 28 | 1, RELEASE << 28 | 1] * 128
+    actions = [TASK << 28] + held + (others[: 255 - len(held)] if 7 in faults else [])
+    last = CLAIM << 28 | (unused << 24 if 6 in faults else 0) | (3 << 16 if 28 in faults else 0)
+    return [DEVICE << 28 | 3, DEVICE << 28 | 1] + ([] if 5 in faults else actions) + [last]
+
+
+def faults_together():
+    """Every choice of faults that one CLAIM can have."""
+    choices = [choice for count in range(6) for choice in itertools.combinations(CLAIM_FAULTS, count)]
+    return [choice for choice in choices if 5 not in choice or not {7, 8} & set(choice)]
+
+
+def turned_bits(words):
+    """The words with any one bit of a field turned in a CLAIM or a RELEASE."""
+    places = [place for place, word in enumerate(words) if brute.kind_of(word) in (CLAIM, RELEASE)]
+    return [words[:place] + [words[place] ^ 1 << bit] + words[place + 1 :] for place in places for bit in range(28)]
+
+
+def unit_lists(dice):
+    """Claims of every number of units near the capacity and near what their bits hold; every choice of faults in one CLAIM; each bit of claims and releases turned."""
+    lists = []
+    for capacity in range(1, 9):
+        for units in sorted({1, capacity, capacity + 1, 9, 128, 255, 256}):
+            lists.append(one_claim(capacity, units, dice.pick([0, 0, 1, 15])))
+    for faults in faults_together():
+        words = claim_with(faults, 1 << dice.below(4))
+        lists += [words, closed(words)]
+    lists += [closed(one_claim(3, units)) for units in (3, 4, 256)]
+    lists += turned_bits(words_of([3, 5, 8], [[claim(1, 2), (CLAIM, 2), (RELEASE, 2), (RELEASE, 1)]]))
+    return lists
+
+
+def turned(dice, words):
+    """The words with one of bits 12 to 27 of an action turned."""
+    places = [place for place, word in enumerate(words) if brute.kind_of(word) in (CLAIM, RELEASE)]
+    if not places:
+        return words
+    place = dice.pick(places)
+    return words[:place] + [words[place] ^ 1 << dice.between(12, 27)] + words[place + 1 :]
+
+
+def damaged_unit_words(dice):
+    """The words of a set with units, damaged: in the parts of an action, anywhere, or in both."""
+    words = words_of(*dice.pick([unit_set, unclean_unit_set])(dice, 60))
+    return dice.pick([turned, mutated, lambda dice, words: mutated(dice, turned(dice, words))])(dice, words)
+
+
+def random_unit_cases(dice):
+    """Random sets with units, with every kind of calls, rounds, and slices that are too short."""
+    kinds = call_kinds(dice)
+    cases = []
+    for number in range(160):
+        s = dice.pick([unit_set, tight_unit_set, sized_set])(dice, dice.pick([60, 100, 200, 300, 400]))
+        cases.append(fitting(dice, s, kinds[number % len(kinds)](s)))
+    for _ in range(50):
+        s = dice.pick([unit_set, tight_unit_set, sized_set])(dice, dice.pick([60, 120, 240]))
+        cases.append(fitting(dice, s, round_calls(dice, s, sum(lengths_of(s))), True))
+    for _ in range(8):
+        cases += short_cases(dice, unit_set(dice, dice.pick([30, 100, 300])))
+    return cases
+
+
+def unit_plan_cases(dice):
+    """Plans of sets with units that are damaged."""
+    cases = []
+    for text in UNIT_SETS[1:3]:
+        s = written_set(text)
+        plan = brute.plan_of(s)
+        cases += question_cases(s, at_edges(dice, plan, len(s.tasks), damaged(dice, plan, 30)))
+    return cases
+
+
+def large_unit_cases(dice):
+    """Eight tasks, and large grids, with units."""
+    cases = []
+    for s in (unit_users(8, range(1, 9)), unit_users(8, [3] * 8), with_units(dice, ring(5)), with_units(dice, apart([254, 254])), with_units(dice, apart([12, 70, 70]))):
+        cases.append(Case(words_of(*s), grid_of(s), plan_length(s), random_calls(dice, s, 6)))
+    return cases
+
+
+def unclean_unit_cases(dice):
+    """Sets with units and with devices that no task claims."""
+    cases = []
+    for text in UNIT_SETS:
+        s = written_set(text)
+        cases.append(unclean_case(dice, with_device(s, dice.below(len(s.capacities) + 1), dice.between(1, 8)), random_calls(dice, s, 4)))
+    for _ in range(30):
+        s = unclean_unit_set(dice, dice.pick([30, 60, 120]))
+        cases.append(unclean_case(dice, s, edge_calls(dice, s)))
+    for _ in range(8):
+        s = unclean_unit_set(dice, 120)
+        cases.append(unclean_case(dice, s, round_calls(dice, s, sum(lengths_of(s))), True))
+    return cases
+
+
+def unit_service_cases(dice):
+    """Fair shares and trials on sets with units."""
+    known = [written_set(text) for text in (UNIT_SETS[0], UNIT_SETS[5], UNIT_SETS[8])]
+    kinds = [(kept_round_calls, 8), (long_calls, 6), (edge_count_calls, 6), (other_byte_calls, 6), (again_and_route_calls, 5)]
+    kinds += [(own_map_trials, 10), (ending_trials, 5), (spoilt_map_trials, 8), (other_map_trials, 4)]
+    cases = []
+    for make, count in kinds:
+        for number in range(count):
+            s = known[number] if number < len(known) else shared_unit_set(dice, dice.pick([30, 60, 120]))
+            cases.append(Case(words_of(*s), grid_of(s), plan_length(s), make(dice, s)))
+    return cases
+
+
+def unit_cases(dice):
+    """Claims of several units: known sets, random ones, unclean ones, damaged words and plans, large sets; then shares and trials, which bring settings of their own."""
+    cases = named_cases(dice, unit_sets()) + random_unit_cases(dice) + unit_plan_cases(dice) + large_unit_cases(dice)
+    cases += [refused_case(dice, words) for words in unit_lists(dice)] + [refused_case(dice, damaged_unit_words(dice)) for _ in range(150)]
+    cases = [with_cleaning(case) for case in cases] + unclean_unit_cases(dice)
+    return [with_settings(dice, case) for case in cases] + unit_service_cases(dice)
+
+
 def all_cases():
     dice, shares = Dice(SEED), Dice(SHARE_SEED)
-    cases = named_cases(dice) + dead_cases(dice) + small_cases(dice) + faulty_cases(dice) + large_cases(dice) + stored_cases(dice)
+    cases = named_cases(dice, named_sets()) + dead_cases(dice) + small_cases(dice) + faulty_cases(dice) + large_cases(dice) + stored_cases(dice)
     cases = [with_cleaning(case) for case in cases] + cleaning_cases(dice) + [with_cleaning(case) for case in counted_cases(dice)]
-    return [with_settings(shares, case) for case in cases] + share_cases(shares) + trial_cases(Dice(TRIAL_SEED))
+    return [with_settings(shares, case) for case in cases] + share_cases(shares) + trial_cases(Dice(TRIAL_SEED)) + unit_cases(Dice(UNIT_SEED))
 
 
 def swept_states(tasks, low, high):

@@ -8,7 +8,7 @@ import tempfile
 
 import brute
 from brute import Set, word_bytes, words_in, words_of
-from make_corpus import FILES, Dice, large_unclean_lists, mutated, unclean_set
+from make_corpus import FILES, Dice, damaged_unit_words, large_unclean_lists, mutated, unclean_set, unclean_unit_set
 from program_checks import Program, damaged, sized
 
 ROOT = os.path.dirname(os.path.dirname(os.path.abspath(__file__)))
@@ -16,6 +16,10 @@ ROOT = os.path.dirname(os.path.dirname(os.path.abspath(__file__)))
 # Desk example a, and example g as it was before its device had to be claimed, with what it is cleaned to.
 A = word_bytes(int(word, 16) for word in "10000001 10000001 20000000 30000000 30000001 40000001 40000000 20000000 30000001 30000000 40000000 40000001 5000000C".split())
 OLD, NEW = word_bytes([0x10000008, 0x20000000, 0x50000002]), word_bytes([0x20000000, 0x50000001])
+
+# A claim of four units of device 1, which becomes device 0.
+OLD_UNITS = word_bytes([0x10000008, 0x10000005, 0x20000000, 0x30030001, 0x40000001, 0x50000005])
+NEW_UNITS = word_bytes([0x10000005, 0x20000000, 0x30030000, 0x40000000, 0x50000004])
 
 
 def corpus_sets():
@@ -37,22 +41,28 @@ def files():
     dice = Dice(2027)
     lists = [words_of(*unclean_set(dice, 200)) for _ in range(200)] + large_unclean_lists()
     lists += [mutated(dice, words_of(*unclean_set(dice, 60))) for _ in range(200)]
+    lists += [words_of(*unclean_unit_set(dice, 120)) for _ in range(100)] + [damaged_unit_words(dice) for _ in range(100)]
     whole = [OLD] + corpus_sets() + [word_bytes(words) for words in lists] + sized() + list(damaged(dice))
     return [(data, brute.cleaned_file(data)) for data in whole]
 
 
 def read_back(pairs):
-    """How many files were cleaned, and how many of them changed: what is written is a set by the present rules, which cleaning leaves, and with the old one's tasks and grid."""
+    """How many files were cleaned, and how many of them changed: what is written is a set by the present rules, which cleaning leaves, and with the old one's tasks, units and grid."""
     cleaned, changed = 0, 0
     for data, output in pairs:
         if output.startswith(b"refused"):
             continue
         old, new = brute.read_set(words_in(data), former=True), brute.read_set(words_in(output))
         assert isinstance(new, Set) and brute.cleaned(new) == new, data
-        assert brute.lengths_of(new) == brute.lengths_of(old), data
+        assert brute.lengths_of(new) == brute.lengths_of(old) and units_in(new) == units_in(old), data
         cleaned, changed = cleaned + 1, changed + (output != data)
     assert changed > 300 and cleaned - changed > 1000, (cleaned, changed)
     return cleaned, changed
+
+
+def units_in(s):
+    """The units of each action of each task."""
+    return [list(map(brute.units_of, task)) for task in s.tasks]
 
 
 def again(program, pairs):
@@ -68,7 +78,10 @@ def tool(program):
     program.expect("examples/s.words", (example.returncode, example.stdout, example.stderr), (0, A, b""))
     with tempfile.TemporaryDirectory() as folder:
         path = os.path.join(folder, "x.set")
-        for data, status, after, output in ((OLD, 0, NEW, b""), (NEW, 0, NEW, b""), (OLD[:8], 1, OLD[:8], b"refused 11 at 2\n"), (OLD[:9], 1, OLD[:9], b"refused 15 at 2\n")):
+        too_many = OLD_UNITS.replace(b"\x01\x00\x03\x30", b"\x01\x00\x05\x30")
+        mended = [(OLD, 0, NEW, b""), (NEW, 0, NEW, b""), (OLD_UNITS, 0, NEW_UNITS, b""), (NEW_UNITS, 0, NEW_UNITS, b"")]
+        refused = [(OLD[:8], 1, OLD[:8], b"refused 11 at 2\n"), (OLD[:9], 1, OLD[:9], b"refused 15 at 2\n"), (too_many, 1, too_many, b"refused 28 at 3\n")]
+        for data, status, after, output in mended + refused:
             with open(path, "wb") as file:
                 file.write(data)
             ended = subprocess.run([*run, "--bytes", path, "-o", path], capture_output=True)

@@ -5,7 +5,8 @@ import sys
 
 import brute
 from brute import CLAIM, RELEASE, Set, word_bytes, words_of
-from make_corpus import Dice, large_sets, large_unclean_lists, mutated, named_sets, random_set, tight_set, unclean_set
+from make_corpus import Dice, damaged_unit_words, large_sets, large_unclean_lists, mutated, named_sets, random_set, sized_set, tight_set, tight_unit_set, unclean_set
+from make_corpus import unclean_unit_set, unit_lists, unit_sets
 from program_checks import Program, damaged, sized
 
 
@@ -29,6 +30,9 @@ def files():
     lists = [words_of(*s) for s in sets] + [mutated(dice, words_of(*random_set(dice, 60))) for _ in range(40)] + large_unclean_lists()
     # longer plans, one of them with as many words as the printer's slice: 5,461 boxes of three words and END
     lists += [pairs_of(11, 31), pairs_of(18, 19), pairs_of(43, 127)]
+    # claims of several units
+    lists += [words_of(*s) for s in unit_sets() + [make(dice, 200) for make in (tight_unit_set, sized_set, unclean_unit_set) for _ in range(15)]]
+    lists += unit_lists(dice) + [damaged_unit_words(dice) for _ in range(40)]
     whole = [word_bytes(words) for words in lists] + sized() + list(damaged(dice))
     pairs = [(data, brute.printed(data).encode("ascii")) for data in whole]
     return pairs + [(long_plan(), b"refused 14 at 16384\n")]

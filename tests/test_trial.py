@@ -10,7 +10,7 @@ from pathlib import Path
 
 import brute
 from brute import Set, Settings, word_bytes, words_in, words_of
-from make_corpus import Dice, large_sets, mutated, named_sets, random_set, tight_set
+from make_corpus import Dice, damaged_unit_words, large_sets, mutated, named_sets, random_set, sized_set, tight_set, tight_unit_set, unit_set, unit_sets
 from program_checks import Program, damaged, sized
 
 ROOT = os.path.dirname(os.path.dirname(os.path.abspath(__file__)))
@@ -20,6 +20,7 @@ sys.path.insert(0, TOOLS)
 from set_text import bytes_of, read_text  # noqa: E402
 
 SHIFT = os.path.join(ROOT, "examples", "shift.words")
+PATCH = os.path.join(ROOT, "examples", "patch.words")
 LARGEST = 2**32 - 1
 
 
@@ -82,7 +83,9 @@ def cases():
     """Sets, damaged ones and files that are none, each with an order, rounds and settings."""
     dice = Dice(2028)
     sets = [s for s in named_sets() if brute.grid_of(s) <= 3000] * 3 + large_sets()[:1] + [make(dice, 300) for make in (tight_set, random_set) for _ in range(200)]
+    sets += unit_sets() + [make(dice, 200) for make in (unit_set, tight_unit_set, sized_set) for _ in range(20)]
     bad = [word_bytes(mutated(dice, words_of(*random_set(dice, 60)))) for _ in range(60)] + sized() + list(damaged(dice))[::5]
+    bad += [word_bytes(damaged_unit_words(dice)) for _ in range(40)]
     return [case_of(dice, word_bytes(words_of(*s)), len(s.tasks)) for s in sets] + [case_of(dice, data, 1) for data in bad]
 
 
@@ -158,6 +161,10 @@ def tool(program):
     beside = "".join("%-55s   %s\n" % lines for lines in zip(left.splitlines(), right.splitlines()))
     shown = run_tool(program, SHIFT, "2,0,2,1,3", "100", "255/255", "1/4", "2/4")
     program.expect("trial.py", shown, (0, beside + "\n" + below, ""))
+    # The second patch waits while the first has its channels, and the call doesn't.
+    patched = output_for(bytes_of(read_text(PATCH).words), [0, 1, 2], 9, Settings(255, 255))
+    assert "   1        2        2         1         0            0\n   2        2        2         0         0            0\n" in patched, patched
+    program.expect("trial.py on the patches", run_tool(program, PATCH, "0,1,2", "9", "255/255"), (0, patched, ""))
     long = ",".join(["3"] * 3000)
     for words, output, told in (
         ((SHIFT, "0", "1", "1/1", "1/256"), "refused 26 at 0", "1/256: "),

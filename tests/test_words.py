@@ -26,20 +26,23 @@ EXAMPLE_A = os.path.join(ROOT, "examples", "a.words")
 EXAMPLE_D = os.path.join(ROOT, "examples", "d.words")
 EXAMPLE_R = os.path.join(ROOT, "examples", "r.words")
 EXAMPLE_S = os.path.join(ROOT, "examples", "s.words")
+EXAMPLE_PATCH = os.path.join(ROOT, "examples", "patch.words")
 
-# Desk examples a and d of docs/SCOPE.md and r and s of docs/AUTHORS.md, word by word, and the plans of a and r.
+# Desk examples a and d of docs/SCOPE.md, r and s of docs/AUTHORS.md and the radio patches, word by word, and the plans of a, r and the patches.
 A = "10000001 10000001 20000000 30000000 30000001 40000001 40000000 20000000 30000001 30000000 40000000 40000001 5000000C"
 D = """10000001 10000001 10000001 20000000 30000002 30000000 40000002 30000001 40000001 40000000
        20000000 30000001 30000002 40000002 30000000 40000000 40000001 50000011"""
 R = """10000001 10000001 10000001 20000000 30000001 30000000 30000002 40000001 30000001 40000000
        40000001 40000002 20000000 30000001 30000000 40000000 30000002 40000002 40000001 50000013"""
 S = "10000001 10000004 10000001 20000000 30000000 30000002 40000002 40000000 20000000 30000002 30000000 40000000 40000002 5000000D"
+PATCH = "10000003 20000000 30010000 40000000 20000000 30010000 40000000 20000000 30000000 40000000 5000000A"
 A_PLAN = "60000000 80000103 80010202 60000001 80000202 80010103 70000000 80000101 80010101 90000006 5000000A"
 R_PLAN = """60000000 80000205 80010202 60000001 80000103 80010105 60000001 80000506 80010105 60000002 80000307 80010404
             70000000 80000304 80010103 9000001D A000001F 50000011"""
+PATCH_PLAN = "60000000 80000101 80010101 80020002 50000004"
 
 # The limits of a set, and how many refusals there are.
-DEVICES, TASKS, ACTIONS, WORDS, REFUSALS = 16, 8, 255, 4096, 27
+DEVICES, TASKS, ACTIONS, WORDS, REFUSALS = 16, 8, 255, 4096, 28
 
 Ended = namedtuple("Ended", "status output said")
 
@@ -118,7 +121,7 @@ class Reading(Case):
         return str(raised.exception).replace(path, "FILE")
 
     def test_examples(self):
-        for path, expected in ((EXAMPLE_A, A), (EXAMPLE_D, D), (EXAMPLE_R, R), (EXAMPLE_S, S)):
+        for path, expected in ((EXAMPLE_A, A), (EXAMPLE_D, D), (EXAMPLE_R, R), (EXAMPLE_S, S), (EXAMPLE_PATCH, PATCH)):
             text = set_text.read_text(path)
             self.assertEqual([word.value for word in text.words], words_in(expected))
             self.assertEqual(text.warnings, [])
@@ -145,8 +148,13 @@ class Reading(Case):
         self.assertEqual(self.words(text), words_in("10000001 10000008 20000000 30000000 3000000A 4000000A 40000000 50000007"))
         self.assertEqual(self.words(text.lower()), self.words(text))
 
+    def test_units(self):
+        """Behind a claim's device; one unit may be said, too, and more than any device has."""
+        text = "CLAIM 0 UNITS 2\nclaim 15 units 8 # all\nCLAIM 1 UNITS 1\nCLAIM 2 UNITS 0003#three\nCLAIM 0 UNITS 256\nCLAIM 65535 UNITS 255\n"
+        self.assertEqual(self.words(text), words_in("30010000 3007000F 30000001 30020002 30FF0000 30FEFFFF"))
+
     def test_fields_that_a_set_cannot_have(self):
-        self.assertEqual(self.words("DEVICE 9\nCLAIM 268435455\n"), words_in("10000009 3FFFFFFF"))
+        self.assertEqual(self.words("DEVICE 9\nCLAIM 65535\nRELEASE 268435455\n"), words_in("10000009 3000FFFF 4FFFFFFF"))
 
     def test_end_counts_words(self):
         """Not lines; and each END for itself."""
@@ -186,13 +194,28 @@ class Reading(Case):
             ("a\x1b[31mb\x07", 1, "'a\\x1b[31mb\\x07' is no word"),
             ("20000000 50000001", 1, "'50000001' is a second word"),
             ("CLAIM", 1, "a device's number is missing behind CLAIM"),
-            ("DEVICE # 1", 1, "the number of tasks that may hold it is missing behind DEVICE"),
+            ("DEVICE # 1", 1, "the number of its units is missing behind DEVICE"),
             ("RELEASE x", 1, "'x' is no number"),
             ("CLAIM -1", 1, "'-1' is no number"),
             ("CLAIM ١", 1, "'١' is no number"),
             ("CLAIM A", 1, "'A' is no number"),
-            ("CLAIM 268435456", 1, "'268435456' is too large"),
+            ("CLAIM 65536", 1, "'65536' is too large for a word: 65535 is the most"),
+            ("CLAIM 65536 UNITS 2", 1, "'65536' is too large"),
+            ("RELEASE 268435456", 1, "'268435456' is too large for a word: 268435455 is the most"),
             ("CLAIM " + digits, 1, "is too large"),
+            ("TASK\nCLAIM 0 2", 2, "'2' can't stand behind CLAIM: several units are written as in CLAIM 0 UNITS 2"),
+            ("CLAIM 0 UNIT 2", 1, "'UNIT' can't stand behind CLAIM"),
+            ("CLAIM 0 UNITS", 1, "the number of units claimed is missing behind UNITS"),
+            ("CLAIM 0 UNITS # 2", 1, "the number of units claimed is missing behind UNITS"),
+            ("CLAIM 0 UNITS x", 1, "'x' is no number: behind UNITS stands the number of units claimed"),
+            ("CLAIM 0 UNITS 0", 1, "a claim takes one unit at least"),
+            ("CLAIM 0 UNITS 257", 1, "'257' is too large for a word: 256 is the most"),
+            ("CLAIM 0 UNITS " + digits, 1, "is too large"),
+            ("CLAIM 0 UNITS 2 3", 1, "'3' can't stand behind CLAIM"),
+            ("CLAIM UNITS 2", 1, "'UNITS' is no number"),
+            ("RELEASE 0 UNITS 2", 1, "'UNITS' can't stand behind RELEASE: it gives all units back"),
+            ("DEVICE 1 UNITS 2", 1, "'UNITS' can't stand behind DEVICE"),
+            ("UNITS 2", 1, "'UNITS' is no word"),
             ("DEVICE 1 radio", 1, "'radio' can't stand behind DEVICE"),
             ("TASK 0", 1, "'0' can't stand behind TASK"),
             ("TASK\nEND 1", 2, "'1' can't stand behind END"),
@@ -346,6 +369,7 @@ class Plans(Case):
             (b"refused 8 at 3\n", ":7: the task claims a device that it holds already"),
             (b"refused 12 at 4\n", ":8: " + programs.sentence(12)),
             (b"refused 24 at 0\n", ":2: " + programs.sentence(24)),
+            (b"refused 28 at 2\n", ":5: " + programs.sentence(28)),
             (b"refused 8 at 5\n", ": word 5: the task claims a device that it holds already"),
             (b"refused 11 at 3\n", ": " + programs.sentence(11)),
             (b"refused 14 at 3\n", ": " + programs.sentence(14)),
@@ -356,7 +380,7 @@ class Plans(Case):
     def test_which_places_are_words(self):
         text = set_text.Text("x", [set_text.Word(0, line) for line in range(10, 40)], [], [])
         at_a_line = [number for number in range(1, REFUSALS + 1) if programs.line_of(text, number, 5) == "x:15"]
-        self.assertEqual(at_a_line, [2, 3, 4, 5, 6, 7, 8, 9, 10, 12, 24])
+        self.assertEqual(at_a_line, [2, 3, 4, 5, 6, 7, 8, 9, 10, 12, 24, 28])
 
     def test_sentences(self):
         """Each refusal has one of its own out of the header."""
@@ -666,6 +690,7 @@ class RealPrinter(Case):
         self.assertEqual(self.plan(EXAMPLE_A), Ended(0, lines_in(A_PLAN), ""))
         self.assertEqual(self.plan(EXAMPLE_D).status, 0)
         self.assertEqual(self.plan(EXAMPLE_R), Ended(0, lines_in(R_PLAN), ""))
+        self.assertEqual(self.plan(EXAMPLE_PATCH), Ended(0, lines_in(PATCH_PLAN), ""))
         self.assertEqual(self.plan("--bytes", self.file(bytes_in("20000000 50000001"))), Ended(0, b"50000000\n", ""))
 
     def test_refusals(self):
@@ -681,7 +706,12 @@ class RealPrinter(Case):
             (7, DEVICES, DEVICES + 1, "DEVICE 1\n" * (DEVICES + 1)),
             (7, TASKS, TASKS + 1, "TASK\n" * (TASKS + 1)),
             (7, 2 + ACTIONS, 3 + ACTIONS, "DEVICE 1\nTASK\n" + pair * 128),
+            (6, 2, 3, "DEVICE 8\nTASK\n31000000\n"),
+            (6, 3, 4, "DEVICE 8\nTASK\nCLAIM 0 UNITS 2\n40010000\n"),
             (8, 3, 6, "# x\nDEVICE 1\nTASK\nCLAIM 0\n\nCLAIM 0\n"),
+            (28, 2, 5, "# x\nDEVICE 3\nTASK\n\nCLAIM 0 UNITS 4\n"),
+            (28, 3, 4, "DEVICE 3\nTASK\nCLAIM 0\nCLAIM 0 UNITS 256\n"),
+            (7, 2 + ACTIONS, 3 + ACTIONS, "DEVICE 1\nTASK\n" + pair * 127 + "CLAIM 0\nCLAIM 0 UNITS 2\n"),
             (9, 2, 3, "DEVICE 1\nTASK\nRELEASE 0\n"),
             (10, 3, 4, "DEVICE 1\nTASK\nCLAIM 0\nEND\n"),
             (12, 514, 516, "# x\nDEVICE 1\n" + long_task * 2 + "TASK\n" + pair + "END\n"),

@@ -9,7 +9,7 @@ ROOT = os.path.dirname(os.path.dirname(os.path.abspath(__file__)))
 HEADER = os.path.join(ROOT, "include", "arbiter.h")
 
 # The refusals whose place is the index of a word. That of 2 is the first word too many; that of 24 is a device, whose word has its number as index.
-AT_A_WORD = (2, 3, 4, 5, 6, 7, 8, 9, 10, 12, 24)
+AT_A_WORD = (2, 3, 4, 5, 6, 7, 8, 9, 10, 12, 24, 28)
 
 
 def built(name):

@@ -10,8 +10,11 @@ import sys
 from collections import namedtuple
 
 KINDS = {b"DEVICE": 1, b"TASK": 2, b"CLAIM": 3, b"RELEASE": 4, b"END": 5}
-WITH_A_NUMBER = {b"DEVICE": "the number of tasks that may hold it", b"CLAIM": "a device's number", b"RELEASE": "a device's number"}
+WITH_A_NUMBER = {b"DEVICE": "the number of its units", b"CLAIM": "a device's number", b"RELEASE": "a device's number", b"UNITS": "the number of units claimed"}
+HINTS = {b"CLAIM": "several units are written as in CLAIM 0 UNITS 2, and a comment starts with #", b"RELEASE": "it gives all units back, and a comment there starts with #"}
 FIELDS = 1 << 28  # a word is its kind times this, plus its field
+EXTRA_UNITS = 1 << 16  # a CLAIM's field is its device, which is below this, plus the units beyond the first times this
+MAX_UNITS = 256
 DIGITS = 8  # of a word in hexadecimal
 IN_DIGITS = re.compile(rb"[0-9A-Fa-f]{%d}" % DIGITS)
 
@@ -83,14 +86,39 @@ def read_bytes(name):
 # --- Words ---
 
 
-def number_of(name, token):
-    """The field that stands behind a name, in decimal."""
+def number_of(name, rest, most):
+    """The number that stands behind a name, in decimal, at the front of the rest of a line."""
+    if not rest:
+        raise Complaint("%s is missing behind %s" % (WITH_A_NUMBER[name], name.decode()))
+    token = rest[0]
     digits = token.lstrip(b"0") or b"0"
     if not re.fullmatch(rb"[0-9]+", token):
         raise Complaint("%s is no number: behind %s stands %s, in decimal" % (quoted(token), name.decode(), WITH_A_NUMBER[name]))
-    if len(digits) > len(str(FIELDS)) or int(digits) >= FIELDS:
-        raise Complaint("%s is too large for a word: %d is the most" % (quoted(token), FIELDS - 1))
+    if len(digits) > len(str(most)) or int(digits) > most:
+        raise Complaint("%s is too large for a word: %d is the most" % (quoted(token), most))
     return int(digits)
+
+
+def units_of(rest):
+    """The units of a claim, which stand behind UNITS."""
+    units = number_of(b"UNITS", rest, MAX_UNITS)
+    if units == 0:
+        raise Complaint("a claim takes one unit at least")
+    return units
+
+
+def field_of(name, rest, before):
+    """The field of a word by its name, and what else stands on the line."""
+    if name == b"END":
+        return before, rest
+    if name not in WITH_A_NUMBER:
+        return 0, rest
+    if name != b"CLAIM":
+        return number_of(name, rest, FIELDS - 1), rest[1:]
+    device, rest = number_of(name, rest, EXTRA_UNITS - 1), rest[1:]
+    if not rest or rest[0].upper() != b"UNITS":
+        return device, rest
+    return (units_of(rest[1:]) - 1) * EXTRA_UNITS + device, rest[2:]
 
 
 def word_of(tokens, before):
@@ -105,13 +133,9 @@ def word_of(tokens, before):
         raise Complaint("a word has %d hexadecimal digits, %s has %d" % (DIGITS, quoted(head), len(head)))
     if name not in KINDS:
         raise Complaint("%s is no word: write %d hexadecimal digits, or DEVICE, TASK, CLAIM, RELEASE or END" % (quoted(head), DIGITS))
-    field = before if name == b"END" else 0
-    if name in WITH_A_NUMBER:
-        if not rest:
-            raise Complaint("%s is missing behind %s" % (WITH_A_NUMBER[name], name.decode()))
-        field, rest = number_of(name, rest[0]), rest[1:]
+    field, rest = field_of(name, rest, before)
     if rest:
-        raise Complaint("%s can't stand behind %s: a comment there starts with #" % (quoted(rest[0]), name.decode()))
+        raise Complaint("%s can't stand behind %s: %s" % (quoted(rest[0]), name.decode(), HINTS.get(name, "a comment there starts with #")))
     return KINDS[name] * FIELDS + field
 
 

@@ -2,8 +2,9 @@
 """Turns a set written as text into bytes on standard output, four a word, lowest first.
 
 A word a line: eight hexadecimal digits, behind which the rest of the line is a comment; or DEVICE n,
-TASK, CLAIM n, RELEASE n or END, with n in decimal, and END's count made by itself. From # on a line
-is a comment. Nothing is written if a line is wrong. A plan as the printer prints it is such a text too.
+TASK, CLAIM n, RELEASE n or END, with n in decimal, and END's count made by itself. A claim of more than
+one unit says how many, as CLAIM 0 UNITS 2; its release gives all of them back. From # on a line is a
+comment. Nothing is written if a line is wrong. A plan as the printer prints it is such a text too.
 
 It ends with status 0, or with 2 and a line 'words.py: FILE:LINE: what is wrong' on standard error.
 It doesn't tell whether the set is accepted; plan.py does.

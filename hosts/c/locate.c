@@ -215,7 +215,7 @@ static void tell_box(stored plan, size_t index, size_t tasks, arbiter_state stat
     size_t number = arbiter_count(plan.words, index, box.kind) + 1, all = arbiter_count(plan.words, plan.len, box.kind);
     printf("in %s box %zu of %zu, which starts at ", forbidden ? "forbidden" : "unsafe", number, all);
     tell_place(plan, index);
-    if (forbidden) printf(": device %u would have too many holders\n", (unsigned)box.device);
+    if (forbidden) printf(": device %u would have more units held than it has\n", (unsigned)box.device);
     else printf(": the tasks can no longer all finish\n");
     for (size_t task = 0; task < tasks; task++) {
         printf("task %zu: position %u, the box has %u to %u\n", task, (unsigned)state.positions[task], (unsigned)box.low[task], (unsigned)box.high[task]);

@@ -24,7 +24,7 @@ use Rattle.analysis.specs.declared.Outcome.the-variants.{Refused}
 use Rattle.analysis.specs.Says.{answerOf, analysedOf}
 use Rattle.analysis.specs.Sections.{HasMap}
 
--- 1 to 12
+-- the refusals of a set
 pub turned-back : (words map plan : List ℕ) (n p : ℕ) → read words ≡ refused n p → analysedOf (Refused n p) map plan ≡ analyse words map plan
 unfolding _then_ ifGiven answerOf
 turned-back words map plan n p e = rw e

@@ -12,11 +12,12 @@ use Rattle.model.specs.Set.{deviceOf, Task, Set, claimed, at}
 use Rattle.model.specs.Layout.{word, DEVICE, END, taskWords, body, withEnd, encode, former, WellFormedBy}
 use Rattle.model.specs.Clean.{keptFrom, newNumber, cleaned}
 use Rattle.model.proofs.Counts.{many-bound, many-same}
-use Rattle.model.proofs.Each.{Each, each-mono}
+use Rattle.model.proofs.Each.{each-mono}
 use Rattle.model.proofs.Lists.{length-tabulate, getD-tabulate}
 use Rattle.model.proofs.Kept.{length-kept, kept-same}
 use Rattle.model.proofs.Renamed.{renamed-same}
 use Rattle.model.proofs.Cleaned.{all-declared, length-cleaned}
+use Rattle.model.proofs.Words.{all-fit}
 use Rattle.model.proofs.ReadExact.{read-sound}
 use Rattle.model.proofs.Slices.{write-front, write-next}
 use Rattle.shape.specs.declared.Shape.{Shape}
@@ -86,9 +87,6 @@ module _ (s : Set) (w : WellFormedBy former s) (numbers : List ℕ) where
       let count : length (encode s) - 1 - length cs ≡ length (taskWords ts) = omega arith in
       ap₂ (λ (k : ℕ) (l : List ℕ). take k l) count behind ∙ take-append-seam (taskWords ts) end
 
-  small : Each (Each (λ a. deviceOf a < 16)) ts
-  small = each-mono _ _ (λ task. each-mono _ _ (λ a h. omega (arith, w .devices)) task) ts (all-declared s w)
-
   kept-devices : newDevices (shapeOf s) marks ≡ map (word DEVICE) (cleaned s .capacities)
   kept-devices =
       ap (λ (l : List ℕ). map (word DEVICE) (keptFrom (λ d. getD marks d false) 0 l)) front
@@ -98,7 +96,7 @@ module _ (s : Set) (w : WellFormedBy former s) (numbers : List ℕ) where
     tasks-renamed : newTasks (encode s) (shapeOf s) numbers ≡ taskWords (cleaned s .tasks)
     tasks-renamed =
         ap (map (renamedWord (at numbers))) middle
-        ∙ words-renamed (at numbers) ts small
+        ∙ words-renamed (at numbers) ts (all-fit s w)
         ∙ ap taskWords (renamed-same (at numbers) (newNumber ts) ts
         (each-mono _ _ (λ task. each-mono _ _ (λ a h. n .each (deviceOf a) h ∙ count-is (deviceOf a) (omega arith)) task) ts (all-declared s w)))
 
@@ -112,7 +110,7 @@ module _ (s : Set) (w : WellFormedBy former s) (numbers : List ℕ) where
           marks-all = length-tabulate 16 (claimed ts);
           inside = rw split (simp (length-append, length-map) (omega arith));
           short = w .words;
-          named = rw middle (words-named ts small);
+          named = rw middle (words-named ts (all-fit s w));
           tasks-length = rw (middle, split) (simp (length-append, length-map) (omega arith));
           kept = ap length kept-devices ∙ length-map (keptFrom (claimed ts) 0 cs) (word DEVICE) ∙ (let z : 0 + length cs ≡ length cs = omega arith in omega (arith, rw z at (length-kept (claimed ts) 0 cs), count));
           no-more = many-bound (length cs) (λ d. getD marks d false);

@@ -9,7 +9,7 @@ use lib.ListN.{length}
 use lib.Dec.{eqb, ltb}
 use borrow.Author.Tests.{ltb-true, ltb-false, lt-ltb, lt-leb, eqb-true, eqb-false, not-true}
 use Rattle.model.specs.Answer.{Answer, given, refused, _then_}
-use Rattle.model.specs.Set.{claim, release, Set, lengthsOf, taskAt, actionAt, at}
+use Rattle.model.specs.Set.{release, Set, lengthsOf, taskAt, actionAt, at}
 use Rattle.model.specs.Layout.{Rules, WellFormedBy, WellFormed}
 use Rattle.model.specs.State.{State, InGrid, next, sum, rank}
 use Rattle.model.specs.Read.{read}
@@ -38,6 +38,7 @@ use Rattle.model.proofs.BidAnswers.{spent, some-granted}
 use Rattle.model.proofs.BrokerRecord.{bid-refused}
 use Rattle.model.proofs.ReleaseOpen.{release-open}
 use Rattle.model.proofs.ReadExact.{read-sound}
+use Rattle.demands.specs.Terms.{Claims}
 use Rattle.demands.specs.MapDemand.{IsOpen, Bytes}
 use Rattle.demands.specs.Calls.{Allowed, byteOf, Ready, ReadyFor, WouldGo, OtherGoes, OfBid}
 use Rattle.demands.specs.Service.{Goes, Spent, OfBidding}
@@ -121,8 +122,8 @@ module _ (words m : List ℕ) (s : Set) (is-read : read words ≡ given s) (lent
       Means (given granted) = c .share ≤ at (r .counts) t → OtherGoes s r m c t → ⊥
       Means (given finished) = Unit {0}
       Means (given share-spent) = (c .share ≤ at (r .counts) t) × OtherGranted t
-      Means (given (busy d)) = (at x t < length (taskAt s t)) × (actionAt s t (at x t) ≡ claim d)
-      Means (given (held p)) = (at x t < length (taskAt s t)) × (p ≡ rank ls (next x t)) × ((d : ℕ) × (actionAt s t (at x t) ≡ claim d))
+      Means (given (busy d)) = (at x t < length (taskAt s t)) × Claims (actionAt s t (at x t)) d
+      Means (given (held p)) = (at x t < length (taskAt s t)) × (p ≡ rank ls (next x t)) × ((d : ℕ) × Claims (actionAt s t (at x t)) d)
       Means (refused n p) = Unit {0}
 
       by-served : {v : Served Bid} → bid words m c r t ≡ v → Means (v .answer) → Means (bid words m c r t .answer)
@@ -135,7 +136,7 @@ module _ (words m : List ℕ) (s : Set) (is-read : read words ≡ given s) (lent
           (λ k. by-served (spends words s is-read r m c t ready-for g k) (other-granted t k))
           (λ k. by-served (goes words s is-read r m c t ready-for g k) (λ l o. true-not-false (spent s m c r x t) (is-spent s m r c t l o) k))
 
-      claim-means : (d : ℕ) → at x t < length (taskAt s t) → actionAt s t (at x t) ≡ claim d → Means (bid words m c r t .answer)
+      claim-means : (d : ℕ) → at x t < length (taskAt s t) → Claims (actionAt s t (at x t)) d → Means (bid words m c r t .answer)
       unfolding Means
       claim-means d l e =
           let b = byteOf s m (next x t) in
@@ -153,7 +154,7 @@ module _ (words m : List ℕ) (s : Set) (is-read : read words ≡ given s) (lent
           (λ h. by-bool (ltb (at x t) (length (taskAt s t)))
           (λ k.
           let l = ltb-true (at x t) (length (taskAt s t)) k in
-          by-action (actionAt s t (at x t)) (λ d e. claim-means d l e) (λ d e. would-mean (release-would t d l e)))
+          by-action (actionAt s t (at x t)) (λ d u e. claim-means d l (u, e)) (λ d e. would-mean (release-would t d l e)))
           (λ k. by-served (cases c t .is-finished ready-for (ltb-true t (length (s .tasks)) h) (ltb-false (at x t) (length (taskAt s t)) k)) tt))
           (λ h. by-served (cases c t .no-task ready-for (ltb-false t (length (s .tasks)) h)) tt)
 

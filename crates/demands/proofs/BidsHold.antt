@@ -52,7 +52,7 @@ granted-told (refused k p) e = true-not-false false e refl
 
 named : (a : Action) (d : ℕ) → Names a d → deviceOf a ≡ d
 unfolding deviceOf
-named a d (inl e) = rw e
+named a d (inl e) = rw (e .1)
 named a d (inr e) = rw e
 
 module _ (words : List ℕ) (s : Set) (is-read : read words ≡ given s) (r : Record) (m : List ℕ) (c : Settings) (t : ℕ) where

@@ -14,24 +14,24 @@ use Rattle.model.specs.Below.{lowest}
 use Rattle.model.specs.Read.{firstUnclaimed}
 use Rattle.model.proofs.Bools.{by-bool, by-cases, true-not-false, or-true, or-right}
 use Rattle.model.proofs.Counts.{lowest-passes, below-lowest, is-lowest}
-use Rattle.demands.specs.Terms.{IsClaimed, AllClaimed, LowestUnclaimed}
+use Rattle.demands.specs.Terms.{Claims, IsClaimed, AllClaimed, LowestUnclaimed}
 
 -- ---- in a task
-claims-at : (d : ℕ) (task : Task) → claims d task ≡ true → (p : ℕ) × (p < length task) × (getD task p (claim 0) ≡ claim d)
+claims-at : (d : ℕ) (task : Task) → claims d task ≡ true → (p : ℕ) × (p < length task) × Claims (getD task p (claim 0 0)) d
 unfolding claims
 claims-at d [] e = true-not-false false e refl
-claims-at d (claim c ∷ task) e =
+claims-at d (claim c u ∷ task) e =
     by-cases (or-true (eqb c d) (claims d task) e)
-    (λ k. (0, omega arith, ap claim (eqb-true c d k)))
+    (λ k. (0, omega arith, (u, ap (λ (b : ℕ). claim b u) (eqb-true c d k))))
     (λ k. let r = claims-at d task k in (suc (r .0), omega (arith, r .1), r .2))
 claims-at d (release c ∷ task) e = let r = claims-at d task e in (suc (r .0), omega (arith, r .1), r .2)
 
-at-claims : (d : ℕ) (task : Task) (p : ℕ) → p < length task → getD task p (claim 0) ≡ claim d → claims d task ≡ true
+at-claims : (d : ℕ) (task : Task) (p : ℕ) → p < length task → Claims (getD task p (claim 0 0)) d → claims d task ≡ true
 unfolding claims
 at-claims d [] p h e = absurd (omega arith)
-at-claims d (claim c ∷ task) zero h e = rw (eq-eqb c d (cc))
-at-claims d (release c ∷ task) zero h e = absurd (let z : _≡_ {A = ℕ} 0 1 = cc in omega arith)
-at-claims d (claim c ∷ task) (suc p) h e = or-right (eqb c d) (claims d task) (at-claims d task p (le-of-suc-le-suc h) e)
+at-claims d (claim c u ∷ task) zero h e = let own = e .1 in rw (eq-eqb c d (cc))
+at-claims d (release c ∷ task) zero h e = let own = e .1 in absurd (let z : _≡_ {A = ℕ} 0 1 = cc in omega arith)
+at-claims d (claim c u ∷ task) (suc p) h e = or-right (eqb c d) (claims d task) (at-claims d task p (le-of-suc-le-suc h) e)
 at-claims d (release c ∷ task) (suc p) h e = at-claims d task p (le-of-suc-le-suc h) e
 
 -- ---- in all of them

@@ -7,17 +7,18 @@ use mathlib.Core.List.{List, [], _∷_, map, flatten}
 use lib.ListN.{length, length-append}
 use Rattle.model.specs.Below.{any, lowest, howMany, tabulate}
 use Rattle.model.specs.Answer.{Answer, given, refused, _then_}
-use Rattle.model.specs.Set.{Action, claim, release, deviceOf, Task, Set, claims, claimed, size}
+use Rattle.model.specs.Set.{Action, claim, release, deviceOf, unitsTaken, Task, Set, claims, claimed, size}
 use Rattle.model.specs.Layout.{word, DEVICE, TASK, END, actionWord, taskWords, body, withEnd, encode, former, Rules, WellFormedBy}
-use Rattle.model.specs.Read.{lastTask, addAction, heldAfter, note, outOfOrder, fieldAllowed, tooMany, fault, readFrom, readWords, close, readBy}
+use Rattle.model.specs.Read.{lastTask, addAction, heldAfter, note, outOfOrder, fieldAllowed, tooMany, tooManyUnits, fault, readFrom, readWords, close, readBy}
 use Rattle.model.specs.Clean.{keptFrom, renamed, cleaned}
 use Rattle.model.specs.Printed.{wordAt, wordsOf, digits, codes}
 use Rattle.model.specs.CleanFile.{bytesOfAll, toWrite, outputOf as written, cleanedFile}
-use Rattle.model.proofs.Each.{Each, each-append, each-map, each-place, each-mono}
+use Rattle.model.proofs.Each.{Each, each-append, each-map, each-place}
+use Rattle.model.proofs.Words.{FitsWord, all-fit}
 use Rattle.model.proofs.FileWords.{whole, not-whole, too-many}
 use Rattle.model.proofs.Rows.{length-rows, fours as rows}
 use Rattle.model.proofs.ReadExact.{read-sound}
-use Rattle.model.proofs.Cleaned.{all-declared, cleaned-formed}
+use Rattle.model.proofs.Cleaned.{cleaned-formed}
 use Rattle.model.proofs.CleanedFile.{of-words, of-none, long-enough, too-short, cleaned-file-fits}
 use Rattle.demands.specs.Printer.{fours, Whole, refusal, lines, fileOf}
 use Rattle.demands.specs.CleanProgram.{CleanProgram}
@@ -27,28 +28,25 @@ use Rattle.demands.proofs.PrinterHolds.{by-fours}
 abbrev Short : ℕ → Type 0
 Short w = w < 0x100000000
 
-short-action : (a : Action) → deviceOf a < 16 → Short (actionWord a)
-unfolding actionWord deviceOf
-short-action (claim d) h = omega arith
+short-action : (a : Action) → FitsWord a → Short (actionWord a)
+unfolding actionWord deviceOf unitsTaken
+short-action (claim d e) h = omega arith
 short-action (release d) h = omega arith
 
-short-tasks : (tasks : List Task) → Each (Each (λ a. deviceOf a < 16)) tasks → Each Short (taskWords tasks)
+short-tasks : (tasks : List Task) → Each (Each FitsWord) tasks → Each Short (taskWords tasks)
 unfolding taskWords
 short-tasks [] h = tt
 short-tasks (task ∷ tasks) h =
     each-append Short (word TASK 0 ∷ map actionWord task) (taskWords tasks)
-    (omega arith, each-map (λ a. deviceOf a < 16) Short actionWord short-action task (h .0)) (short-tasks tasks (h .1))
+    (omega arith, each-map FitsWord Short actionWord short-action task (h .0)) (short-tasks tasks (h .1))
 
 short-set : {rules : Rules} (s : Set) → WellFormedBy rules s → Each Short (encode s)
 unfolding withEnd body
 short-set s w =
-    let n = length (s .capacities) in
-    let few = each-mono (Each (λ a. deviceOf a < n)) (Each (λ a. deviceOf a < 16))
-    (λ task. each-mono (λ a. deviceOf a < n) (λ a. deviceOf a < 16) (λ a h. omega (arith, w .devices)) task) (s .tasks) (all-declared s w) in
     let low = each-place (λ c. (1 ≤ c) × (c ≤ 8)) 0 (s .capacities) (w .capacities) in
     each-append Short (body s) (word END (length (body s)) ∷ [])
     (each-append Short (map (word DEVICE) (s .capacities)) (taskWords (s .tasks))
-    (each-map (λ c. (1 ≤ c) × (c ≤ 8)) Short (word DEVICE) (λ c h. omega arith) (s .capacities) low) (short-tasks (s .tasks) few))
+    (each-map (λ c. (1 ≤ c) × (c ≤ 8)) Short (word DEVICE) (λ c h. omega arith) (s .capacities) low) (short-tasks (s .tasks) (all-fit s w)))
     (omega (arith, w .words, length-append (body s) (word END (length (body s)) ∷ [])), tt)
 
 -- ---- their bytes, and the words again
@@ -102,7 +100,7 @@ module _ (bs : List ℕ) (w : Whole bs) where
         ((cleaned-file-fits bs .1, omega arith), ap fours cleans ∙ words-back (encode (cleaned s)) short)
 
 pub clean-program-holds : CleanProgram
-unfolding any lowest howMany tabulate claims claimed size lastTask addAction heldAfter note outOfOrder fieldAllowed tooMany fault readFrom readWords close readBy _then_ actionWord taskWords body withEnd keptFrom renamed wordAt wordsOf bytesOfAll written digits codes lines flatten
+unfolding any lowest howMany tabulate claims claimed size lastTask addAction heldAfter note outOfOrder fieldAllowed tooMany tooManyUnits fault readFrom readWords close readBy _then_ actionWord taskWords body withEnd keptFrom renamed wordAt wordsOf bytesOfAll written digits codes lines flatten
 clean-program-holds = record {
   too-many = λ bs h. of-none bs 2 4096 (too-many bs h);
   not-words = λ bs h f. of-none bs 15 (length bs / 4) (not-whole bs h f);
@@ -113,7 +111,9 @@ clean-program-holds = record {
   in-slice = λ bs slice h. sym (long-enough bs slice h);
   short-slice = λ bs slice h. sym (too-short bs slice h);
   g-written = refl;
+  units-written = refl;
   j-written = refl;
+  too-many-written = refl;
   nothing-written = refl;
   three-bytes-written = refl;
 }

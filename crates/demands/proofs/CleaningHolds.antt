@@ -1,7 +1,7 @@
 -- What is said of the cleaner holds.
 use Prim.Native.Nat.{ℕ, _<_, _≤_}
 use native.Mathlib.Omega.{arith}
-use mathlib.Core.Path.{_≡_, refl, sym, ap, _∙_}
+use mathlib.Core.Path.{_≡_, refl, sym, ap, ap₂, _∙_}
 use mathlib.Core.Logic.{_↔_}
 use mathlib.Core.Bool.{Bool, true}
 use mathlib.Core.List.{List, [], _++_, map}
@@ -13,7 +13,7 @@ use Rattle.model.specs.Below.{any, lowest, howMany}
 use Rattle.model.specs.Answer.{given, refused, _then_, ifGiven}
 use Rattle.model.specs.Set.{Action, claim, release, deviceOf, Task, Set, lengthsOf, taskAt, actionAt, claims, claimed, size}
 use Rattle.model.specs.Layout.{actionWord, taskWords, body, withEnd, encode, present, former, WellFormedBy}
-use Rattle.model.specs.Read.{lastTask, addAction, heldAfter, note, outOfOrder, fieldAllowed, tooMany, fault, readFrom, readWords, firstUnclaimed, close, readBy, read}
+use Rattle.model.specs.Read.{lastTask, addAction, heldAfter, note, outOfOrder, fieldAllowed, tooMany, tooManyUnits, fault, readFrom, readWords, firstUnclaimed, close, readBy, read}
 use Rattle.model.specs.State.{State}
 use Rattle.model.specs.Clean.{keptFrom, newNumber, renamed, cleaned, cleanFits, Cleaned, clean}
 use Rattle.model.proofs.Bools.{by-bool, by-cases, true-not-false}
@@ -44,26 +44,26 @@ module _ (s : Set) (w : WellFormedBy former s) where
   action-in : (k p : ℕ) → actionAt (cleaned s) k p ≡ renamed new (actionAt s k p)
   unfolding renamed howMany
   action-in k p =
-      ap (λ (l : Task). getD l p (claim 0)) (List·getD-map (map (renamed new)) (s .tasks) k []) ∙ List·getD-map (renamed new) (taskAt s k) p (claim 0)
+      ap (λ (l : Task). getD l p (claim 0 0)) (List·getD-map (map (renamed new)) (s .tasks) k []) ∙ List·getD-map (renamed new) (taskAt s k) p (claim 0 0)
 
   -- it names a claimed device
   action-claims : (k p : ℕ) → k < length (s .tasks) → p < length (taskAt s k) → f (deviceOf (actionAt s k p)) ≡ true
   action-claims k p h l =
-      each-at (λ a. f (deviceOf a) ≡ true) (claim 0) (taskAt s k) (each-at (Each (λ a. f (deviceOf a) ≡ true)) [] (s .tasks) (all-named s w) k h) p l
+      each-at (λ a. f (deviceOf a) ≡ true) (claim 0 0) (taskAt s k) (each-at (Each (λ a. f (deviceOf a) ≡ true)) [] (s .tasks) (all-named s w) k h) p l
 
   -- two claimed devices with one number are one
   same-device : (c d : ℕ) → f c ≡ true → f d ≡ true → new c ≡ new d → c ≡ d
   same-device c d p q e = eqb-true c d (sym (many-apart f c d p q) ∙ eq-eqb (new c) (new d) e)
 
-  claims-back : (a : Action) (d : ℕ) → f (deviceOf a) ≡ true → f d ≡ true → (renamed new a ≡ claim (new d)) ↔ (a ≡ claim d)
+  claims-back : (a : Action) (d u : ℕ) → f (deviceOf a) ≡ true → f d ≡ true → (renamed new a ≡ claim (new d) u) ↔ (a ≡ claim d u)
   unfolding renamed deviceOf
-  claims-back (claim c) d p q = ((λ e. ap claim (same-device c d p q (cc))), λ e. ap (renamed new) e)
-  claims-back (release c) d p q = ((λ e. absurd (let z : _≡_ {A = ℕ} 0 1 = cc in omega arith)), λ e. absurd (let z : _≡_ {A = ℕ} 0 1 = cc in omega arith))
+  claims-back (claim c v) d u p q = ((λ e. ap₂ claim (same-device c d p q (cc)) (cc)), λ e. ap (renamed new) e)
+  claims-back (release c) d u p q = ((λ e. absurd (let z : _≡_ {A = ℕ} 0 1 = cc in omega arith)), λ e. absurd (let z : _≡_ {A = ℕ} 0 1 = cc in omega arith))
 
   releases-back : (a : Action) (d : ℕ) → f (deviceOf a) ≡ true → f d ≡ true → (renamed new a ≡ release (new d)) ↔ (a ≡ release d)
   unfolding renamed deviceOf
   releases-back (release c) d p q = ((λ e. ap release (same-device c d p q (cc))), λ e. ap (renamed new) e)
-  releases-back (claim c) d p q = ((λ e. absurd (let z : _≡_ {A = ℕ} 0 1 = cc in omega arith)), λ e. absurd (let z : _≡_ {A = ℕ} 0 1 = cc in omega arith))
+  releases-back (claim c v) d p q = ((λ e. absurd (let z : _≡_ {A = ℕ} 0 1 = cc in omega arith)), λ e. absurd (let z : _≡_ {A = ℕ} 0 1 = cc in omega arith))
 
   of-cleaned : OfCleaned s (cleaned s)
   of-cleaned =
@@ -76,7 +76,7 @@ module _ (s : Set) (w : WellFormedBy former s) where
         closed-up = λ e h. let o = old-of (s .tasks) named cs e h in (o .0, (o .1, is-claimed s (o .0) (o .2)), sym (o .3));
         in-order = λ c d k _ h. many-below f c d (passes c k) h;
         capacity = λ d k. new-of (s .tasks) named cs d (k .0) (passes d k) .1;
-        claims = λ k p d h l q. rw (action-in k p) (claims-back (actionAt s k p) d (action-claims k p h l) (passes d q));
+        claims = λ k p d u h l q. rw (action-in k p) (claims-back (actionAt s k p) d u (action-claims k p h l) (passes d q));
         releases = λ k p d h l q. rw (action-in k p) (releases-back (actionAt s k p) d (action-claims k p h l) (passes d q));
         same-permitted = λ x. ap (λ (t : State → Bool). t x) (permitted-cleaned s w);
         same-map = map-cleaned s w;
@@ -202,11 +202,11 @@ lowest-24 : (words : List ℕ) (d : ℕ) → read words ≡ refused 24 d → (s 
 unfolding readBy
 lowest-24 words d e =
     by-cases (then-refused (close present (length words)) (readWords words) 24 d .0 e)
-    (λ r. let n = words-listed words 24 d r in absurd (omega arith))
+    (λ r. by-cases (words-listed words 24 d r) (λ n. absurd (omega arith)) (λ n. absurd (omega arith)))
     (λ r. (r .0, words-sound words (r .0) (r .1) .0, close-24 (length words) (r .0) d (r .2)))
 
 pub cleaning-holds : Cleaning
-unfolding any lowest howMany claims claimed size lastTask addAction heldAfter note outOfOrder fieldAllowed tooMany fault readFrom readWords close readBy _then_ ifGiven actionWord taskWords body withEnd keptFrom renamed cleanFits
+unfolding any lowest howMany claims claimed size lastTask addAction heldAfter note outOfOrder fieldAllowed tooMany tooManyUnits fault readFrom readWords close readBy _then_ ifGiven actionWord taskWords body withEnd keptFrom renamed cleanFits
 cleaning-holds = record {
   turned-back = refuses;
   too-short = short;
@@ -220,4 +220,6 @@ cleaning-holds = record {
   lowest = lowest-24;
   example = refl;
   short-example = refl;
+  units-example = refl;
+  units-refused = refl;
 }

@@ -3,11 +3,11 @@ use mathlib.Core.Path.{refl}
 use mathlib.Core.List.{flatten}
 use Rattle.model.specs.Below.{any, lowest, howMany, tabulate, maximum}
 use Rattle.model.specs.Set.{deviceOf, claims, claimed, size}
-use Rattle.model.specs.Read.{lastTask, addAction, heldAfter, note, outOfOrder, fieldAllowed, tooMany, fault, readFrom, readWords, close, readBy, setOf}
+use Rattle.model.specs.Read.{lastTask, addAction, heldAfter, note, outOfOrder, fieldAllowed, tooMany, tooManyUnits, fault, readFrom, readWords, close, readBy, setOf}
 use Rattle.model.specs.State.{isEnd, sum, weight, rank, stateAt}
-use Rattle.model.specs.Hold.{heldTo, holdsFrom, holding, held as unitsHeld, permitted}
+use Rattle.model.specs.Hold.{heldTo, holdsFrom, unitsAt, held as unitsHeld, permitted}
 use Rattle.model.specs.Box.{inside, covered, firstBox}
-use Rattle.model.specs.Forbidden.{choose, prefixed, sidesOf, boxesOf, boxesOfAll, deviceBoxes, forbiddenFrom, forbidden}
+use Rattle.model.specs.Forbidden.{choose, setsFrom, sidesOf, prefixed, choicesOf, choicesOfAll, total, eachNeeded, justExceeds, boxesOf, deviceBoxes, forbiddenFrom, forbidden}
 use Rattle.model.specs.Map.{stepsOnto, byte, lastBytes, bytes}
 use Rattle.model.specs.Reach.{steppedOnto, mark, firstMarks}
 use Rattle.model.specs.UnsafeBoxes.{getsBox, blockerLow, unsafeBox, lastUnsafe, unsafeBoxes}
@@ -24,7 +24,7 @@ use Rattle.model.specs.Route.{stepFrom, walk, walked, routeFrom, routeSteps, ro
 use Rattle.demands.specs.Examples.{answers, Examples}
 
 pub examples-hold : Examples
-unfolding any tabulate maximum deviceOf size lastTask addAction heldAfter note outOfOrder fieldAllowed tooMany fault readFrom readWords close readBy setOf claims claimed lowest isEnd sum weight rank stateAt heldTo holdsFrom holding unitsHeld permitted inside covered firstBox choose prefixed sidesOf boxesOf boxesOfAll deviceBoxes forbiddenFrom forbidden stepsOnto byte lastBytes bytes steppedOnto mark firstMarks getsBox blockerLow unsafeBox lastUnsafe unsafeBoxes withEnd ranksFrom keep permittedStates unsafeStates sideWords forbiddenWords unsafeWords planWords _then_ ifGiven mapFits planFits misplaced miscounted placed bidByte mapAnswer isGranted settled otherGoes sharedAnswer bidAnswer inWindow afterCall afterList stepFrom walk walked routeFrom routeSteps routeFits cleanFits keptFrom howMany renamed taskWords body actionWord answers flatten rowWith isFinished ordered tryFrom trialOn
+unfolding any tabulate maximum deviceOf size lastTask addAction heldAfter note outOfOrder fieldAllowed tooMany tooManyUnits fault readFrom readWords close readBy setOf claims claimed lowest isEnd sum weight rank stateAt heldTo holdsFrom unitsAt unitsHeld permitted inside covered firstBox choose setsFrom sidesOf prefixed choicesOf choicesOfAll total eachNeeded justExceeds boxesOf deviceBoxes forbiddenFrom forbidden stepsOnto byte lastBytes bytes steppedOnto mark firstMarks getsBox blockerLow unsafeBox lastUnsafe unsafeBoxes withEnd ranksFrom keep permittedStates unsafeStates sideWords forbiddenWords unsafeWords planWords _then_ ifGiven mapFits planFits misplaced miscounted placed bidByte mapAnswer isGranted settled otherGoes sharedAnswer bidAnswer inWindow afterCall afterList stepFrom walk walked routeFrom routeSteps routeFits cleanFits keptFrom howMany renamed taskWords body actionWord answers flatten rowWith isFinished ordered tryFrom trialOn
 examples-hold = record {
   a-states = (refl, refl);
   a-answer = refl;

@@ -28,10 +28,11 @@ module _ {rules : Rules} (s : Set) (w : WellFormedBy rules s) where
         let b = device-told d (s .tasks) (balances d) (at (s .capacities) d) (f .box) (rw e at (r .3)) in
         record {
           device = omega arith;
-          sides = b .0 .count;
-          tasks = b .1;
-          over-hold = λ t h. b .0 .over t h .hold;
-          over-all = λ t h. b .0 .over t h .whole;
+          sides = b .sides .count;
+          over-hold = λ t h. b .sides .over t h .hold;
+          over-all = λ t h. b .sides .over t h .whole;
+          exceeds = b .exceeds;
+          none-spare = b .none-spare;
         }
 
     rule-listed : OfRule s f → List·Memᴰ f (forbidden s)
@@ -40,7 +41,11 @@ module _ {rules : Rules} (s : Set) (w : WellFormedBy rules s) where
         let d = f .device in
         from-listed (s .tasks) 0 (s .capacities) f d (omega arith) (r .device)
         (device-listed d (s .tasks) (balances d) (at (s .capacities) d) (f .box)
-        (record { count = r .sides; over = λ t h. record { hold = r .over-hold t h; whole = r .over-all t h } }) (r .tasks))
+        (record {
+          sides = record { count = r .sides; over = λ t h. record { hold = r .over-hold t h; whole = r .over-all t h } };
+          exceeds = r .exceeds;
+          none-spare = r .none-spare;
+        }))
 
   rule-order : Ordered Precedes (forbidden s)
   unfolding forbidden

@@ -9,19 +9,19 @@ use lib.ListN.{length, getD, take, length-append, length-map}
 use lib.Seq.{take-length}
 use lib.Dec.{eqb}
 use borrow.Author.Tests.{eqb-true, eq-eqb}
-use Rattle.model.specs.Set.{Action, claim, release, deviceOf, Task, Set, taskAt, actionAt, balanced}
+use Rattle.model.specs.Set.{Action, claim, release, deviceOf, unitsTaken, Task, Set, taskAt, actionAt, at, balanced}
 use Rattle.model.specs.Layout.{word, DEVICE, END, actionWord, taskWords, body, withEnd, Rules, WellFormedBy}
 use Rattle.model.specs.Read.{heldAfter}
 use Rattle.model.proofs.Bools.{by-bool, true-not-false}
 use Rattle.model.proofs.Held.{held-append, releases, balanced-on, balanced-first, balanced-next, balanced-close}
-use Rattle.demands.specs.Terms.{StillHeld}
+use Rattle.demands.specs.Terms.{StillHeld, Claims}
 use Rattle.demands.specs.Reading.{InLayout}
 use Rattle.demands.proofs.ClaimedDevices.{is-claimed, claimed-test}
 use Rattle.demands.proofs.StillHeldSteps.{walk-still}
 
 -- each action finds its device as it needs it: a claim not held, a release held
 abbrev Fits : ℕ → Bool → Task → Type 0
-Fits d h task = (p : ℕ) → p < length task → eqb (deviceOf (getD task p (claim 0))) d ≡ true → heldAfter d h (take p task) ≡ releases (getD task p (claim 0))
+Fits d h task = (p : ℕ) → p < length task → eqb (deviceOf (getD task p (claim 0 0))) d ≡ true → heldAfter d h (take p task) ≡ releases (getD task p (claim 0 0))
 
 -- one action on
 held-on : (d : ℕ) (h : Bool) (a : Action) (task : Task) → heldAfter d h (a ∷ task) ≡ heldAfter d (heldAfter d h (a ∷ [])) task
@@ -41,8 +41,8 @@ fits-balanced d h (a ∷ task) f c =
     ∙ fits-balanced d (heldAfter d h (a ∷ [])) task (λ p l e. sym (held-on d h a (take p task)) ∙ f (suc p) (omega arith) e) (sym (held-on d h a task) ∙ c)
 
 -- an action claims or releases
-pub by-action : {G : Type 0} (a : Action) → ((d : ℕ) → a ≡ claim d → G) → ((d : ℕ) → a ≡ release d → G) → G
-by-action (claim d) p q = p d refl
+pub by-action : {G : Type 0} (a : Action) → ((d e : ℕ) → a ≡ claim d e → G) → ((d : ℕ) → a ≡ release d → G) → G
+by-action (claim d e) p q = p d e refl
 by-action (release d) p q = q d refl
 
 -- at most 255 actions a task make at most 256 words
@@ -72,15 +72,15 @@ module _ (d : ℕ) (task : Task) (k : ℕ) (l : k ≤ length task) where
 -- a task balanced for each device, and each sentence on claims and releases
 module _ (task : Task) where
   pub record Sentences : Type 0 where
-    pub claims : (p d : ℕ) → p < length task → getD task p (claim 0) ≡ claim d → StillHeld d task p → ⊥
-    pub releases-held : (p d : ℕ) → p < length task → getD task p (claim 0) ≡ release d → StillHeld d task p
+    pub claims : (p d : ℕ) → p < length task → Claims (getD task p (claim 0 0)) d → StillHeld d task p → ⊥
+    pub releases-held : (p d : ℕ) → p < length task → getD task p (claim 0 0) ≡ release d → StillHeld d task p
     pub closes : (d : ℕ) → StillHeld d task (length task) → ⊥
 
   balanced-sentences : ((d : ℕ) → balanced d false task ≡ true) → Sentences
   unfolding releases deviceOf
   balanced-sentences b = record {
     claims = λ p d h a.
-        not-still d task p (omega arith) (balanced-fits d false task (b d) p h (rw a (eq-eqb d d refl)) ∙ ap releases a);
+        not-still d task p (omega arith) (balanced-fits d false task (b d) p h (rw (a .1) (eq-eqb d d refl)) ∙ ap releases (a .1));
     releases-held = λ p d h a.
         walk-still d task p (omega arith) .0 (balanced-fits d false task (b d) p h (rw a (eq-eqb d d refl)) ∙ ap releases a);
     closes = λ d. not-still d task (length task) (omega arith) (rw take-length (balanced-close d false task (b d)));
@@ -90,10 +90,10 @@ module _ (task : Task) where
   unfolding releases deviceOf
   sentences-balanced s d =
       fits-balanced d false task
-      (λ p l e. by-action (getD task p (claim 0))
-      (λ c a.
+      (λ p l e. by-action (getD task p (claim 0 0))
+      (λ c u a.
       let same : c ≡ d = eqb-true c d (rw a at e) in
-      rw a (walk-not d task p (omega arith) (s .claims p d l (a ∙ ap claim same))))
+      rw a (walk-not d task p (omega arith) (s .claims p d l (u, a ∙ ap (λ (b : ℕ). claim b u) same))))
       (λ c a.
       let same : c ≡ d = eqb-true c d (rw a at e) in
       rw a (still-walk d task p (omega arith) (s .releases-held p d l (a ∙ ap release same)))))
@@ -101,14 +101,24 @@ module _ (task : Task) where
 
 -- the device of an action
 module _ (n : ℕ) (a : Action) where
-  named : deviceOf a < n → (d : ℕ) → (a ≡ claim d) ⊎ (a ≡ release d) → d < n
+  named : deviceOf a < n → (d : ℕ) → Claims a d ⊎ (a ≡ release d) → d < n
   unfolding deviceOf
-  named h d (inl e) = rw e at h
+  named h d (inl e) = rw (e .1) at h
   named h d (inr e) = rw e at h
 
-  names : ((d : ℕ) → (a ≡ claim d) ⊎ (a ≡ release d) → d < n) → deviceOf a < n
+  names : ((d : ℕ) → Claims a d ⊎ (a ≡ release d) → d < n) → deviceOf a < n
   unfolding deviceOf
-  names f = by-action a (λ d e. rw e (f d (inl e))) (λ d e. rw e (f d (inr e)))
+  names f = by-action a (λ d u e. rw e (f d (inl (u, e)))) (λ d e. rw e (f d (inr e)))
+
+-- and its units
+module _ (cs : List ℕ) (a : Action) where
+  taken : unitsTaken a ≤ at cs (deviceOf a) → (d e : ℕ) → a ≡ claim d e → suc e ≤ at cs d
+  unfolding deviceOf unitsTaken
+  taken h d e q = rw q at h
+
+  takes : ((d e : ℕ) → a ≡ claim d e → suc e ≤ at cs d) → unitsTaken a ≤ at cs (deviceOf a)
+  unfolding deviceOf unitsTaken
+  takes f = by-action a (λ d e q. rw q (f d e q)) (λ d q. rw q (omega arith))
 
 formed-layout : (rules : Rules) (s : Set) → WellFormedBy rules s → InLayout rules s
 formed-layout rules s w = record {
@@ -117,6 +127,7 @@ formed-layout rules s w = record {
   tasks = (w .some-task, w .tasks);
   actions = λ t h. w .each-task t h .actions;
   declared = λ t p d h l. named (length (s .capacities)) (actionAt s t p) (w .each-task t h .declared p l) d;
+  units = λ t p d e h l. taken (s .capacities) (actionAt s t p) (w .each-task t h .units p l) d e;
   claims = λ t p d h. told t h .claims p d;
   releases = λ t p d h. told t h .releases-held p d;
   closes = λ t d h. told t h .closes d;
@@ -137,6 +148,7 @@ layout-formed rules s i = record {
   each-task = λ t h. record {
     actions = i .actions t h;
     declared = λ p l. names (length (s .capacities)) (actionAt s t p) (λ d. i .declared t p d h l);
+    units = λ p l. takes (s .capacities) (actionAt s t p) (λ d e. i .units t p d e h l);
     balance = sentences-balanced (taskAt s t)
         (record { claims = λ p d. i .claims t p d h; releases-held = λ p d. i .releases t p d h; closes = λ d. i .closes t d h });
   };

@@ -27,7 +27,7 @@ with-end e = rw e refl
 -- ---- a set
 action-word : (a : Action) → actionWord a ≡ wordOf a
 unfolding actionWord wordOf
-action-word (claim d) = omega arith
+action-word (claim d e) = omega arith
 action-word (release d) = omega arith
 
 action-words : (task : Task) → map actionWord task ≡ map wordOf task

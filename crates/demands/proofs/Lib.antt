@@ -23,6 +23,8 @@ pub mod BoxList
 pub mod DeviceList
 pub mod TableList
 pub mod ForbiddenRuleHolds
+pub mod OneUnitBoxes
+pub mod PlainRule
 pub mod MapDemandHolds
 pub mod UnsafeRuleHolds
 pub mod AnalysesHold
@@ -55,4 +57,5 @@ pub mod TrialCounts
 pub mod TrialsHold
 pub mod RefusalsHold
 pub mod CleaningHolds
+pub mod UnitsHold
 pub mod HostsHold

@@ -2,11 +2,11 @@
 use mathlib.Core.Path.{refl}
 use Rattle.model.specs.Below.{any, lowest, tabulate, maximum}
 use Rattle.model.specs.Set.{deviceOf, claims, claimed, size}
-use Rattle.model.specs.Read.{lastTask, addAction, heldAfter, note, outOfOrder, fieldAllowed, tooMany, fault, readFrom, readWords, close, readBy}
+use Rattle.model.specs.Read.{lastTask, addAction, heldAfter, note, outOfOrder, fieldAllowed, tooMany, tooManyUnits, fault, readFrom, readWords, close, readBy}
 use Rattle.model.specs.State.{isEnd, weight, stateAt}
-use Rattle.model.specs.Hold.{heldTo, holdsFrom, holding, held as unitsHeld, permitted}
+use Rattle.model.specs.Hold.{heldTo, holdsFrom, unitsAt, held as unitsHeld, permitted}
 use Rattle.model.specs.Box.{inside, covered, firstBox}
-use Rattle.model.specs.Forbidden.{choose, prefixed, sidesOf, boxesOf, boxesOfAll, deviceBoxes, forbiddenFrom, forbidden}
+use Rattle.model.specs.Forbidden.{choose, setsFrom, sidesOf, prefixed, choicesOf, choicesOfAll, total, eachNeeded, justExceeds, boxesOf, deviceBoxes, forbiddenFrom, forbidden}
 use Rattle.model.specs.Map.{stepsOnto, byte, lastBytes, bytes}
 use Rattle.model.specs.Reach.{steppedOnto, mark, firstMarks}
 use Rattle.model.specs.UnsafeBoxes.{getsBox, blockerLow, unsafeBox, lastUnsafe, unsafeBoxes}
@@ -20,5 +20,5 @@ use Rattle.demands.specs.Terms.{times}
 use Rattle.demands.specs.Plans.{Plans}
 
 pub plans-hold : Plans
-unfolding any tabulate maximum deviceOf size lastTask addAction heldAfter note outOfOrder fieldAllowed tooMany fault readFrom readWords close readBy claims claimed lowest isEnd weight stateAt heldTo holdsFrom holding unitsHeld permitted inside covered firstBox choose prefixed sidesOf boxesOf boxesOfAll deviceBoxes forbiddenFrom forbidden stepsOnto byte lastBytes bytes steppedOnto mark firstMarks getsBox blockerLow unsafeBox lastUnsafe unsafeBoxes actionWord taskWords body withEnd ranksFrom keep permittedStates unsafeStates sideWords forbiddenWords unsafeWords planWords _then_ ifGiven mapFits planFits times
+unfolding any tabulate maximum deviceOf size lastTask addAction heldAfter note outOfOrder fieldAllowed tooMany tooManyUnits fault readFrom readWords close readBy claims claimed lowest isEnd weight stateAt heldTo holdsFrom unitsAt unitsHeld permitted inside covered firstBox choose setsFrom sidesOf prefixed choicesOf choicesOfAll total eachNeeded justExceeds boxesOf deviceBoxes forbiddenFrom forbidden stepsOnto byte lastBytes bytes steppedOnto mark firstMarks getsBox blockerLow unsafeBox lastUnsafe unsafeBoxes actionWord taskWords body withEnd ranksFrom keep permittedStates unsafeStates sideWords forbiddenWords unsafeWords planWords _then_ ifGiven mapFits planFits times
 plans-hold = record { m-plan = refl; n-plan = refl; o-plan = refl; p-plan = refl; q-plan = refl; u-plan = refl; v-answer = refl }

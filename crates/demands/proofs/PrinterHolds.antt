@@ -8,11 +8,11 @@ use borrow.Author.Tests.{lt-ltb, le-ltb}
 use Rattle.model.specs.Below.{any, lowest, tabulate, maximum}
 use Rattle.model.specs.Answer.{Answer, given, refused, _then_}
 use Rattle.model.specs.Set.{deviceOf, Set, claims, claimed, size}
-use Rattle.model.specs.Read.{lastTask, addAction, heldAfter, note, outOfOrder, fieldAllowed, tooMany, fault, readFrom, readWords, close, readBy, read}
+use Rattle.model.specs.Read.{lastTask, addAction, heldAfter, note, outOfOrder, fieldAllowed, tooMany, tooManyUnits, fault, readFrom, readWords, close, readBy, read}
 use Rattle.model.specs.State.{isEnd, sum, weight, rank, stateAt}
-use Rattle.model.specs.Hold.{heldTo, holdsFrom, holding, held as unitsHeld, permitted}
+use Rattle.model.specs.Hold.{heldTo, holdsFrom, unitsAt, held as unitsHeld, permitted}
 use Rattle.model.specs.Box.{inside, covered, firstBox}
-use Rattle.model.specs.Forbidden.{choose, prefixed, sidesOf, boxesOf, boxesOfAll, deviceBoxes, forbiddenFrom, forbidden}
+use Rattle.model.specs.Forbidden.{choose, setsFrom, sidesOf, prefixed, choicesOf, choicesOfAll, total, eachNeeded, justExceeds, boxesOf, deviceBoxes, forbiddenFrom, forbidden}
 use Rattle.model.specs.Map.{stepsOnto, byte, lastBytes, bytes}
 use Rattle.model.specs.Reach.{steppedOnto, mark, firstMarks}
 use Rattle.model.specs.UnsafeBoxes.{getsBox, blockerLow, unsafeBox, lastUnsafe, unsafeBoxes}
@@ -86,7 +86,7 @@ module _ (bs : List ℕ) (w : Whole bs) where
     short-plan h = of-fours (given (planWords (planOf s))) (rw (e, le-ltb 16384 (planLength s) h)) ∙ each-line (planWords (planOf s))
 
 pub printing : Printing
-unfolding any tabulate maximum deviceOf size lastTask addAction heldAfter note outOfOrder fieldAllowed tooMany fault readFrom readWords close readBy claims claimed lowest isEnd sum weight rank stateAt heldTo holdsFrom holding unitsHeld permitted inside covered firstBox choose prefixed sidesOf boxesOf boxesOfAll deviceBoxes forbiddenFrom forbidden stepsOnto byte lastBytes bytes steppedOnto mark firstMarks getsBox blockerLow unsafeBox lastUnsafe unsafeBoxes withEnd ranksFrom keep sideWords forbiddenWords unsafeWords planWords _then_ wordAt wordsOf toPrint linesOf digits codes textOf lines flatten
+unfolding any tabulate maximum deviceOf size lastTask addAction heldAfter note outOfOrder fieldAllowed tooMany tooManyUnits fault readFrom readWords close readBy claims claimed lowest isEnd sum weight rank stateAt heldTo holdsFrom unitsAt unitsHeld permitted inside covered firstBox choose setsFrom sidesOf prefixed choicesOf choicesOfAll total eachNeeded justExceeds boxesOf deviceBoxes forbiddenFrom forbidden stepsOnto byte lastBytes bytes steppedOnto mark firstMarks getsBox blockerLow unsafeBox lastUnsafe unsafeBoxes withEnd ranksFrom keep sideWords forbiddenWords unsafeWords planWords _then_ wordAt wordsOf toPrint linesOf digits codes textOf lines flatten
 printing = record {
   too-many = λ bs h. of-none bs 2 4096 (too-many bs h);
   not-words = λ bs h f. of-none bs 15 (length bs / 4) (not-whole bs h f);

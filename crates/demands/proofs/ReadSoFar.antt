@@ -1,25 +1,25 @@
 -- What the reader has noted after words without a fault, said of the words alone, and how it grows by a word.
-use Prim.Native.Nat.{ℕ, suc, _+_, _<_}
+use Prim.Native.Nat.{ℕ, suc, _+_, _%_, _<_}
 use native.Mathlib.Omega.{arith}
 use mathlib.Core.Path.{_≡_, refl, sym, ap, _∙_}
 use mathlib.Core.Logic.{_⊎_, inl, inr}
 use mathlib.Core.Bool.{true, false, not}
 use mathlib.Core.List.{List, [], _∷_, _++_}
-use lib.ListN.{length, getD, take, length-append}
-use lib.Seq.{take-suc, length-take-le}
-use lib.Dec.{eqb}
+use lib.ListN.{length, getD, take, length-append, List·getD-append}
+use lib.Seq.{take-suc, length-take-le, getD-append-seam}
+use lib.Dec.{eqb, ltb}
 use borrow.Author.Tests.{ltb-true, ltb-false, eqb-true, eqb-false, eq-eqb, ne-eqb, not-true}
-use Rattle.model.specs.Set.{Action, claim, release, Task, Set}
-use Rattle.model.specs.Layout.{word, DEVICE, TASK, CLAIM, RELEASE, END, actionWord, taskWords, body, withEnd, encode}
+use Rattle.model.specs.Set.{Action, claim, release, Task, Set, at}
+use Rattle.model.specs.Layout.{word, deviceBits, extraBits, DEVICE, TASK, CLAIM, RELEASE, END, actionWord, taskWords, body, withEnd, encode}
 use Rattle.model.specs.Read.{lastTask, addAction, heldAfter, Scan, note, outOfOrder, fieldAllowed}
 use Rattle.model.proofs.Bools.{by-cases, true-not-false, and-true, or-true, or-right}
 use Rattle.model.proofs.Held.{count-add, last-added, held-append}
-use Rattle.model.proofs.Words.{setWith, body-device, body-task}
+use Rattle.model.proofs.Words.{setWith, claim-parts, body-device, body-task}
 use Rattle.model.proofs.Faults.{scanOf, Passes}
 use Rattle.demands.specs.Terms.{howMany}
-use Rattle.demands.specs.Turned.{kind, field, Came, Holds}
+use Rattle.demands.specs.Turned.{kind, field, device, declared, Declares, Came, Holds}
 use Rattle.demands.proofs.OpenTask.{last-acts, count-acts, body-acts}
-use Rattle.demands.proofs.WordsBefore.{by-five, by-last, many-more, many-same, came-before, holds-claimed, holds-kept, holds-told}
+use Rattle.demands.proofs.WordsBefore.{by-five, by-last, many-more, many-same, came-before, declares-told, declares-on, holds-claimed, holds-kept, holds-told}
 
 module _ (ws : List ℕ) where
   -- the open task has l actions: the last TASK, and l words since
@@ -29,7 +29,9 @@ module _ (ws : List ℕ) where
   -- the first i words declare these devices and tasks, and END is not among them
   pub record Going (i : ℕ) (cs : List ℕ) (ts : List Task) : Type 0 where
     pub no-end : Came ws i 5 → ⊥
-    pub devices : length cs ≡ howMany i (λ j. eqb (kind ws j) 1)
+    pub devices : length cs ≡ declared ws i
+    pub capacities : (d : ℕ) → d < length cs → Declares ws i d (at cs d)
+    pub declares : (d c : ℕ) → Declares ws i d c → (d < length cs) × (at cs d ≡ c)
     pub tasks : length ts ≡ howMany i (λ j. eqb (kind ws j) 2)
     pub held : (d : ℕ) → heldAfter d false (lastTask ts) ≡ true → Holds ws i d
     pub holds : (d : ℕ) → Holds ws i d → heldAfter d false (lastTask ts) ≡ true
@@ -47,6 +49,8 @@ module _ (ws : List ℕ) where
   nothing = record {
     no-end = λ c. omega arith;
     devices = refl;
+    capacities = λ d h. absurd (omega arith);
+    declares = λ d c h. absurd (omega arith);
     tasks = refl;
     held = λ d e. true-not-false false e refl;
     holds = λ d h. absurd (omega arith);
@@ -69,6 +73,16 @@ module _ (ws : List ℕ) where
     goes-device k e [] g p = record {
       no-end = λ c. g .no-end (came-before ws i 5 (λ z. omega arith) c);
       devices = rw (many-more (λ j. eqb (kind ws j) 1) i (eq-eqb (kind ws i) 1 k)) (omega (arith, length-append cs (f ∷ []), g .devices));
+      capacities = λ d h.
+          by-last d (length cs) (omega (arith, length-append cs (f ∷ []), h))
+          (λ z. rw (z, getD-append-seam cs f [] 0) (i, omega arith, k, sym (g .devices), e))
+          (λ l. rw (List·getD-append cs (f ∷ []) 0 d l) (declares-on ws i d (at cs d) (g .capacities d l)));
+      declares = λ d c h.
+          by-cases (declares-told ws i d c h)
+          (λ q.
+          let last : d ≡ length cs = sym (g .devices ∙ q .1) in
+          (omega (arith, length-append cs (f ∷ [])), rw (last, getD-append-seam cs f [] 0) (sym e ∙ q .2)))
+          (λ q. let r = g .declares d c q in (omega (arith, length-append cs (f ∷ []), r .0), List·getD-append cs (f ∷ []) 0 d (r .0) ∙ r .1));
       tasks = rw (many-same (λ j. eqb (kind ws j) 2) i (ne-eqb (kind ws i) 2 (λ z. omega arith))) (g .tasks);
       held = λ d h. true-not-false false h refl;
       holds = λ d h. by-cases (holds-told ws i d h) (λ z. absurd (omega arith)) (λ z. g .holds d (z .0));
@@ -84,6 +98,8 @@ module _ (ws : List ℕ) where
         record {
           no-end = λ c. g .no-end (came-before ws i 5 (λ z. omega arith) c);
           devices = rw (many-same (λ j. eqb (kind ws j) 1) i (ne-eqb (kind ws i) 1 (λ z. omega arith))) (g .devices);
+          capacities = λ d h. declares-on ws i d (at cs d) (g .capacities d h);
+          declares = λ d c h. by-cases (declares-told ws i d c h) (λ q. absurd (omega arith)) (g .declares d c);
           tasks = rw (many-more (λ j. eqb (kind ws j) 2) i (eq-eqb (kind ws i) 2 k)) (omega (arith, count-add ts [], g .tasks));
           held = λ d h. true-not-false _ h (empty d);
           holds = λ d h. by-cases (holds-told ws i d h) (λ z. absurd (omega arith)) (λ z. absurd (z .1 (inl k)));
@@ -107,6 +123,8 @@ module _ (ws : List ℕ) where
         record {
           no-end = λ c. g .no-end (came-before ws i 5 (action .2) c);
           devices = rw (many-same (λ j. eqb (kind ws j) 1) i (ne-eqb (kind ws i) 1 (action .0))) (g .devices);
+          capacities = λ d h. declares-on ws i d (at cs d) (g .capacities d h);
+          declares = λ d c h. by-cases (declares-told ws i d c h) (λ q. absurd (action .0 (q .0))) (g .declares d c);
           tasks = rw (many-same (λ j. eqb (kind ws j) 2) i (ne-eqb (kind ws i) 2 (action .1))) (count-acts ts a some ∙ g .tasks);
           held = λ d h. held d (sym (next d) ∙ h) .0;
           holds = λ d h. next d ∙ holds d h;
@@ -121,16 +139,19 @@ module _ (ws : List ℕ) where
           words = w ∙ sym (body-acts ts a some cs);
         }
 
-    goes-claim : (f : ℕ) → kind ws i ≡ 3 → field ws i ≡ f → f < length cs → Going (suc i) cs (addAction ts (claim f))
+    goes-claim : (f : ℕ) → kind ws i ≡ 3 → field ws i ≡ f → f < 0x1000000 → deviceBits f < length cs → Going (suc i) cs (addAction ts (claim (deviceBits f) (extraBits f)))
     unfolding actionWord heldAfter
-    goes-claim f k e l =
-        goes-action (claim f) (more-words i here (body (setWith cs ts)) 3 f (g .words) k e) (inl k)
-        (λ d h. by-cases (or-true (eqb f d) _ h)
-        (λ q. let same = eqb-true f d q in (holds-claimed ws i d k (e ∙ same), omega arith))
+    goes-claim f k e short l =
+        let b = body (setWith cs ts) in
+        let c = deviceBits f in
+        let named : device ws i ≡ c = ap (λ (v : ℕ). v % 0x10000) e in
+        goes-action (claim c (extraBits f)) (more-words i here b 3 f (g .words) k e ∙ ap (λ (v : ℕ). b ++ (word CLAIM v ∷ [])) (claim-parts f short)) (inl k)
+        (λ d h. by-cases (or-true (eqb c d) _ h)
+        (λ q. let same = eqb-true c d q in (holds-claimed ws i d k (named ∙ same), rw same at l))
         (λ q. (holds-kept ws i d (g .held d q) (λ z. by-cases z (λ y. omega arith) (λ y. omega arith)), g .declared d q)))
         (λ d h. by-cases (holds-told ws i d h)
-        (λ q. rw (eq-eqb f d (sym e ∙ q .1)))
-        (λ q. or-right (eqb f d) _ (g .holds d (q .0))))
+        (λ q. rw (eq-eqb c d (sym named ∙ q .1)))
+        (λ q. or-right (eqb c d) _ (g .holds d (q .0))))
 
     goes-release : (f : ℕ) → kind ws i ≡ 4 → field ws i ≡ f → Going (suc i) cs (addAction ts (release f))
     unfolding actionWord heldAfter
@@ -164,7 +185,9 @@ module _ (ws : List ℕ) where
     unfolding note outOfOrder fieldAllowed
     on-claim f k e p =
         let some : 0 < length ts = omega (arith, eqb-false (length ts) 0 (p .order)) in
-        going cs (addAction ts (claim f)) (goes-claim i cs ts here some g f k e (ltb-true f (length cs) (p .field)))
+        let allowed = and-true (ltb f 0x1000000) (ltb (deviceBits f) (length cs)) (p .field) in
+        going cs (addAction ts (claim (deviceBits f) (extraBits f)))
+        (goes-claim i cs ts here some g f k e (ltb-true f 0x1000000 (allowed .0)) (ltb-true (deviceBits f) (length cs) (allowed .1)))
 
     on-release : (f : ℕ) → kind ws i ≡ 4 → field ws i ≡ f → Passes (scanOf cs ts) i RELEASE f → Tracks (suc i) (note (scanOf cs ts) RELEASE f)
     unfolding note outOfOrder

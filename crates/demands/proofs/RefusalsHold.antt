@@ -3,7 +3,7 @@ use Prim.Native.Nat.{ℕ, suc, _<_, _≤_}
 use native.Mathlib.Omega.{arith}
 use native.Mathlib.Nat.{eq-or-lt-of-le}
 use mathlib.Core.Path.{_≡_, refl, sym}
-use mathlib.Core.Logic.{⊎-elim}
+use mathlib.Core.Logic.{inl, inr, ⊎-elim}
 use mathlib.Core.Bool.{Bool, true, false, not, cond, _&&_, _||_}
 use mathlib.Core.List.{List, [], _∷_, _++_, List·Memᴰ, List·Memᴰ·head, List·Memᴰ·tail}
 use lib.ListN.{length}
@@ -24,7 +24,7 @@ use Rattle.model.specs.Route.{stepsFrom, walked, routeFrom, routeSteps, routeFi
 use Rattle.model.specs.StoredPlan.{locate}
 use Rattle.model.proofs.Bools.{by-bool, by-cases, true-not-false, or-true}
 use Rattle.model.proofs.Answers.{then-refused}
-use Rattle.model.proofs.ReadNumbers.{read-number}
+use Rattle.model.proofs.ReadNumbers.{OfWords, read-number}
 use Rattle.demands.specs.Refusals.{ofFormerSet, ofSet, ofAnalysis, ofBid, ofTrial, ofAgain, ofRoute, ofQuestion, ofCleaner, Only, Refusals}
 use Rattle.demands.proofs.TrialOrders.{faulty-order, right-order, right-or-faulty, rounds-tasks}
 use Rattle.demands.proofs.PlanFaultsHold.{plan-faults-hold}
@@ -59,12 +59,13 @@ only-then numbers a f h k =
     only-intro numbers (a then f) λ n p e.
     by-cases (then-refused f a n p .0 e) (only-listed numbers a h n p) (λ r. only-listed numbers (f (r .0)) (k (r .0)) n p (r .2))
 
--- a reading's numbers are 1 to 12, which every list begins with
-first-listed : (more : List ℕ) (n : ℕ) → (1 ≤ n) × (n ≤ 12) → List·Memᴰ n (ofFormerSet ++ more)
-first-listed more n h =
+-- a reading's numbers are 1 to 12 and 28, which every list begins with
+first-listed : (more : List ℕ) (n : ℕ) → OfWords n → List·Memᴰ n (ofFormerSet ++ more)
+first-listed more n (inr e) = rw e (listed 28 (ofFormerSet ++ more) refl)
+first-listed more n (inl h) =
     from 1 n _ (h .0) λ n₂. from 2 n _ n₂ λ n₃. from 3 n _ n₃ λ n₄. from 4 n _ n₄ λ n₅. from 5 n _ n₅ λ n₆. from 6 n _ n₆ λ n₇.
-    from 7 n _ n₇ λ n₈. from 8 n _ n₈ λ n₉. from 9 n _ n₉ λ n₁₀. from 10 n _ n₁₀ λ n₁₁. from 11 n _ n₁₁ λ n₁₂. from 12 n _ n₁₂ λ n₁₃.
-    absurd (omega (arith, h .1))
+    from 7 n _ n₇ λ n₈. List·Memᴰ·tail (from 8 n _ n₈ λ n₉. from 9 n _ n₉ λ n₁₀. from 10 n _ n₁₀ λ n₁₁. from 11 n _ n₁₁ λ n₁₂. from 12 n _ n₁₂ λ n₁₃.
+    absurd (omega (arith, h .1)))
   where
     -- a number from a on is a or a later one
     from : (a n : ℕ) (l : List ℕ) → a ≤ n → (a < n → List·Memᴰ n l) → List·Memᴰ n (a ∷ l)

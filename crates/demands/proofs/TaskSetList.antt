@@ -1,14 +1,16 @@
--- The sets of k among n tasks: each is listed, by its ascending task list.
-use Prim.Native.Nat.{ℕ, zero, suc, _<_}
+-- The sets of k among n tasks: each is listed, by its ascending task list; and those of all sizes, smaller ones first.
+use Prim.Native.Nat.{ℕ, zero, suc, _<_, _≤_}
 use native.Mathlib.Omega.{arith}
-use mathlib.Core.Path.{_≡_, refl, ap}
+use mathlib.Core.Path.{_≡_, refl, sym, ap, _∙_}
+use mathlib.Core.Logic.{inl, inr}
 use mathlib.Core.Bool.{true, false}
 use mathlib.Core.List.{List, [], _∷_, map, List·Memᴰ, List·Memᴰ·head, List·Memᴰ·not-nil, List·Memᴰ·append-cases, List·Memᴰ·eq-of-singleton, Memᴰ·append-left, Memᴰ·append-right, Memᴰ·map, Memᴰ·of-map}
 use lib.ListN.{length}
-use Rattle.model.specs.Forbidden.{TaskSet, choose}
+use Rattle.model.specs.Forbidden.{TaskSet, choose, setsFrom}
 use Rattle.model.proofs.Bools.{by-cases}
 use Rattle.demands.specs.Terms.{before, Ordered}
-use Rattle.demands.proofs.Orders.{ordered-append, ordered-map, before-lower, before-same}
+use Rattle.demands.specs.ForbiddenRule.{ListBefore}
+use Rattle.demands.proofs.Orders.{ordered-append, ordered-map, ordered-weaken, before-lower, before-same}
 
 -- the ascending task list of a task set, from task t on
 unfoldable pub members : ℕ → TaskSet → List ℕ
@@ -90,3 +92,27 @@ choose-ordered t (suc k) (suc n) =
     let s = Memᴰ·of-map (λ c. false ∷ c) (choose (suc k) n) q in
     let z = choose-sized (suc t) (suc k) n (s .0) (s .1) in
     rw (← (r .2), ← (s .2)) (before-later t (suc t) (members (suc t) (r .0)) (s .0) (omega arith) (omega arith)))
+
+-- ---- sets of all sizes
+-- smaller sets first, equal sizes by their task lists
+abbrev pub BySize : TaskSet → TaskSet → Type 0
+BySize c e = ListBefore (members 0 c) (members 0 e)
+
+-- a set of those of k tasks and more
+pub sets-sized : (k j n : ℕ) (c : TaskSet) → List·Memᴰ c (setsFrom k j n) → (length c ≡ n) × (k ≤ length (members 0 c))
+unfolding setsFrom
+sets-sized k zero n c m = absurd (List·Memᴰ·not-nil m)
+sets-sized k (suc j) n c m =
+    by-cases (List·Memᴰ·append-cases (choose k n) m)
+    (λ i. let r = choose-sized 0 k n c i in (r .told, omega (arith, r .chosen)))
+    (λ i. let r = sets-sized (suc k) j n c i in (r .0, omega (arith, r .1)))
+
+pub sets-ordered : (k j n : ℕ) → Ordered BySize (setsFrom k j n)
+unfolding setsFrom
+sets-ordered k zero n = tt
+sets-ordered k (suc j) n =
+    ordered-append BySize (choose k n) (setsFrom (suc k) j n)
+    (ordered-weaken (ByMembers 0) BySize (choose k n)
+    (λ a b m i h. inr (choose-sized 0 k n a m .chosen ∙ sym (choose-sized 0 k n b i .chosen), h)) (choose-ordered 0 k n))
+    (sets-ordered (suc k) j n)
+    (λ a b m i. inl (omega (arith, choose-sized 0 k n a m .chosen, sets-sized (suc k) j n b i .1)))

@@ -1,4 +1,4 @@
--- The refusals 1 to 12 and 24 of all words: the reader gives each exactly where SCOPE.md, "Refusals", says.
+-- The refusals 1 to 12, 24 and 28 of all words: the reader gives each exactly where SCOPE.md, "Refusals", says.
 use Prim.Native.Nat.{ℕ, zero, suc, _<_, _≤_}
 use native.Mathlib.Omega.{arith}
 use native.Mathlib.Nat.{eq-or-lt-of-le, le-of-suc-le-suc}
@@ -9,18 +9,18 @@ use lib.ListN.{length, drop}
 use lib.Seq.{take-length, drop-length, drop-cons}
 use lib.Dec.{ltb}
 use borrow.Author.Tests.{lt-ltb, le-ltb, ltb-true, ltb-false, ne-eqb}
-use Rattle.model.specs.Set.{Set, lengthsOf, size}
+use Rattle.model.specs.Set.{Set, lengthsOf, at, size}
 use Rattle.model.specs.Layout.{encode, Rules, present, former}
 use Rattle.model.specs.Answer.{given, refused, _then_}
 use Rattle.model.specs.Read.{Scan, nothingRead, note, fault, readFrom, readWords, firstUnclaimed, close, readBy}
 use Rattle.model.proofs.Bools.{by-bool, by-cases}
 use Rattle.model.proofs.Faults.{fault-passes}
-use Rattle.demands.specs.Turned.{kind, field, Came, Brings, after-end, Faultless, FirstFault, OfWhole, Turned}
+use Rattle.demands.specs.Turned.{inOrder, placeIn, kind, field, Came, Brings, after-end, Faultless, FirstFault, OfWhole, Turned}
 use Rattle.demands.specs.Terms.{AllClaimed}
 use Rattle.demands.proofs.ClaimedDevices.{lowest-unclaimed, unclaimed-lowest, all-or-lowest}
 use Rattle.demands.proofs.ReadSoFar.{Tracks, going, done, nothing, tracks-on}
 use Rattle.demands.proofs.WordFaults.{going-brings}
-use Rattle.demands.proofs.LowestFaults.{Within, going-within, three}
+use Rattle.demands.proofs.LowestFaults.{Within, going-within, in-order}
 
 module _ (ws : List ℕ) where
   -- ---- the number of word i, after words without a fault
@@ -33,16 +33,20 @@ module _ (ws : List ℕ) where
   brings i s m (done r c w) e = rw (← e) (after-end c)
 
   within : (i : ℕ) (s : Scan) (n : ℕ) → Tracks ws i s → Brings ws i n → Within n (faultAt s i)
-  unfolding fault
+  unfolding fault placeIn
   within i s n (going cs ts g) b = going-within ws i cs ts g n b
-  within i s n (done r c w) b = (omega arith, three ws i n b)
+  within i s n (done r c w) b = (omega arith, omega arith)
 
-  lowest : (i : ℕ) (s : Scan) (n : ℕ) → Tracks ws i s → Brings ws i n → ((m : ℕ) → Brings ws i m → n ≤ m) → faultAt s i ≡ n
-  lowest i s n t b least = by-number (faultAt s i) refl (within i s n t b)
+  -- two numbers of a word with one place are one
+  same-number : (i n m : ℕ) → Brings ws i n → Brings ws i m → placeIn inOrder n ≡ placeIn inOrder m → n ≡ m
+  same-number i n m b c e = sym (in-order ws i n b) ∙ ap (at inOrder) e ∙ in-order ws i m c
+
+  first-of : (i : ℕ) (s : Scan) (n : ℕ) → Tracks ws i s → Brings ws i n → ((m : ℕ) → Brings ws i m → placeIn inOrder n ≤ placeIn inOrder m) → faultAt s i ≡ n
+  first-of i s n t b least = by-number (faultAt s i) refl (within i s n t b)
     where
       by-number : (v : ℕ) → faultAt s i ≡ v → Within n v → v ≡ n
       by-number zero e w = absurd (omega arith)
-      by-number (suc m) e w = omega (arith, least (suc m) (brings i s m t e))
+      by-number (suc m) e w = let c = brings i s m t e in same-number i (suc m) n c b (omega (arith, least (suc m) c, w .1))
 
   unfaulted : (i : ℕ) (s : Scan) → Tracks ws i s → ((m : ℕ) → Brings ws i m → ⊥) → faultAt s i ≡ 0
   unfaulted i s t none = by-number (faultAt s i) refl
@@ -91,7 +95,7 @@ module _ (ws : List ℕ) where
   first-fault : (i n : ℕ) → length ws ≤ 4096 → FirstFault ws i n → readWords ws ≡ refused n i
   first-fault i n few f =
       let r = read-to i (omega (arith, f .listed)) (f .faultless-before) in
-      let e = lowest i (r .scan) n (r .tracks) (f .brings) (f .lowest) in
+      let e = first-of i (r .scan) n (r .tracks) (f .brings) (f .first) in
       let w = within i (r .scan) n (r .tracks) (f .brings) in
       from-first (omega (arith, f .listed)) few ∙ r .rest ∙ read-at i (r .scan) n (f .listed) e (rw e at (w .0))
 
@@ -115,7 +119,7 @@ module _ (ws : List ℕ) where
               listed = omega arith;
               faultless-before = c;
               brings = brings k (r .scan) v (r .tracks) e;
-              lowest = λ m b. let w = within k (r .scan) m (r .tracks) b in omega arith;
+              first = λ m b. rw e at (within k (r .scan) m (r .tracks) b .1);
             },
           )
 

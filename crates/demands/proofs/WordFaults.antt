@@ -8,11 +8,12 @@ use mathlib.Core.List.{List}
 use lib.ListN.{length}
 use lib.Dec.{eqb, ltb, leb}
 use borrow.Author.Tests.{ltb-true, ltb-false, leb-true, leb-false, eqb-true, eqb-false, eq-eqb, not-true, not-false}
-use Rattle.model.specs.Set.{Task}
-use Rattle.model.specs.Read.{lastTask, heldAfter, holdsSome, outOfOrder, fieldAllowed, tooMany, fault}
-use Rattle.model.proofs.Bools.{by-bool, true-not-false, and-false, any-true, any-intro}
+use Rattle.model.specs.Set.{Task, at}
+use Rattle.model.specs.Layout.{deviceBits, extraBits}
+use Rattle.model.specs.Read.{lastTask, heldAfter, holdsSome, outOfOrder, fieldAllowed, tooMany, tooManyUnits, fault}
+use Rattle.model.proofs.Bools.{by-bool, true-not-false, and-true, and-false, any-true, any-intro}
 use Rattle.model.proofs.Faults.{scanOf}
-use Rattle.demands.specs.Turned.{kind, field, Came, Holds, Full, IsAction, Brings, no-kind, late-device, early, bad-capacity, task-field, undeclared, end-field, device-17, task-9, action-256, claims-held, releases-free, holds-on}
+use Rattle.demands.specs.Turned.{kind, field, Came, Holds, Full, IsAction, Brings, no-kind, late-device, early, bad-capacity, task-field, claim-field, claims-undeclared, releases-undeclared, end-field, device-17, task-9, action-256, too-many-units, claims-held, releases-free, holds-on}
 use Rattle.demands.proofs.WordsBefore.{by-five, some-passes, passes-some}
 use Rattle.demands.proofs.ReadSoFar.{Going}
 
@@ -75,26 +76,42 @@ module _ (ws : List ℕ) (i : ℕ) (cs : List ℕ) (ts : List Task) (g : Going w
         pick (leb 8 (length ts)) 7 _ (suc m) (λ v. task-9 k (rw (g .tasks) at (leb-true 8 (length ts) v))) λ v.
         pick (holdsSome (scanOf cs ts)) 10 _ (suc m) (λ v. let r = holding v in holds-on (inl k) (r .0) (r .1)) λ v z. absurd (omega arith)
 
-    -- 5, 6 or 7 of a CLAIM or RELEASE, or else x
-    action-brings : IsAction ws i → (x : ℕ) → (x ≡ suc m → Brings ws i (suc m))
-        → cond (eqb (length ts) 0) 5 (cond (not (ltb f (length cs))) 6 (cond (leb 255 (length (lastTask ts))) 7 x)) ≡ suc m → Brings ws i (suc m)
-    action-brings k x rest =
+    -- 5, 6 or 7 of a CLAIM or RELEASE, whose field is allowed or not, or else x
+    action-brings : IsAction ws i → (allowed : Bool) → (allowed ≡ false → Brings ws i 6) → (x : ℕ) → (allowed ≡ true → x ≡ suc m → Brings ws i (suc m))
+        → cond (eqb (length ts) 0) 5 (cond (not allowed) 6 (cond (leb 255 (length (lastTask ts))) 7 x)) ≡ suc m → Brings ws i (suc m)
+    action-brings k allowed bad x rest =
         pick (eqb (length ts) 0) 5 _ (suc m) (λ t. early (inl k) (no-task t)) λ t.
-        pick (not (ltb f (length cs))) 6 _ (suc m) (λ u. undeclared k (rw (field-is, ← g .devices) (ltb-false f (length cs) (not-true _ u)))) λ u.
+        pick (not allowed) 6 _ (suc m) (λ u. bad (not-true _ u)) λ u.
         pick (leb 255 (length (lastTask ts))) 7 _ (suc m)
-        (λ v. action-256 k (full (omega (arith, eqb-false (length ts) 0 t)) (leb-true 255 (length (lastTask ts)) v))) λ v. rest
+        (λ v. action-256 k (full (omega (arith, eqb-false (length ts) 0 t)) (leb-true 255 (length (lastTask ts)) v))) λ v. rest (not-false _ u)
+
+    -- a CLAIM's field that is not allowed has a bit above 23 or an undeclared device
+    bad-claim : kind ws i ≡ 3 → (ltb f 0x1000000 && ltb (deviceBits f) (length cs)) ≡ false → Brings ws i 6
+    bad-claim k e =
+        by-bool (ltb f 0x1000000)
+        (λ t. claims-undeclared k (rw (field-is, ← g .devices) (ltb-false (deviceBits f) (length cs) (and-false _ _ e t))))
+        (λ t. claim-field k (rw field-is (ltb-false f 0x1000000 t)))
+
+    -- more units than a declared device has
+    units-bring : kind ws i ≡ 3 → deviceBits f < length cs → at cs (deviceBits f) < suc (extraBits f) → Brings ws i 28
+    units-bring k d l =
+        let declared = g .capacities (deviceBits f) d in
+        too-many-units k (at cs (deviceBits f)) (rw field-is declared) (rw field-is (omega (arith, l)))
 
     claim-brings : kind ws i ≡ 3 → fault (scanOf cs ts) i 3 f ≡ suc m → Brings ws i (suc m)
-    unfolding fault outOfOrder fieldAllowed tooMany
+    unfolding fault outOfOrder fieldAllowed tooMany tooManyUnits
     claim-brings k =
-        action-brings (inl k) _
-        (pick (heldAfter f false (lastTask ts)) 8 _ (suc m) (λ v. claims-held k (rw field-is (g .held f v))) λ v z. absurd (omega arith))
+        let c = deviceBits f in
+        action-brings (inl k) (ltb f 0x1000000 && ltb c (length cs)) (bad-claim k) _ λ t.
+        pick (ltb (at cs c) (suc (extraBits f))) 28 _ (suc m)
+        (λ u. units-bring k (ltb-true c (length cs) (and-true (ltb f 0x1000000) _ t .1)) (ltb-true (at cs c) (suc (extraBits f)) u)) λ u.
+        pick (heldAfter c false (lastTask ts)) 8 _ (suc m) (λ v. claims-held k (rw field-is (g .held c v))) λ v z. absurd (omega arith)
 
     release-brings : kind ws i ≡ 4 → fault (scanOf cs ts) i 4 f ≡ suc m → Brings ws i (suc m)
     unfolding fault outOfOrder fieldAllowed tooMany
     release-brings k =
-        action-brings (inr k) _
-        (pick (not (heldAfter f false (lastTask ts))) 9 _ (suc m) (λ v. releases-free k (rw field-is (free f (not-true _ v)))) λ v z. absurd (omega arith))
+        action-brings (inr k) (ltb f (length cs)) (λ u. releases-undeclared k (rw (field-is, ← g .devices) (ltb-false f (length cs) u))) _ λ t.
+        pick (not (heldAfter f false (lastTask ts))) 9 _ (suc m) (λ v. releases-free k (rw field-is (free f (not-true _ v)))) λ v z. absurd (omega arith)
 
     end-brings : kind ws i ≡ 5 → fault (scanOf cs ts) i 5 f ≡ suc m → Brings ws i (suc m)
     unfolding fault outOfOrder fieldAllowed tooMany

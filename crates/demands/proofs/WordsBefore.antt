@@ -1,4 +1,4 @@
--- The words before a word: how many have a kind, which kinds came, what the open task holds, one word on.
+-- The words before a word: how many have a kind, which kinds came, what they declare, what the open task holds, one word on.
 use Prim.Native.Nat.{ℕ, zero, suc, _<_}
 use native.Mathlib.Omega.{arith}
 use native.Mathlib.Nat.{eq-or-lt-of-le, le-of-suc-le-suc}
@@ -10,7 +10,7 @@ use lib.Dec.{eqb, leb}
 use borrow.Author.Tests.{leb-true, eqb-true, eqb-false}
 use Rattle.model.proofs.Bools.{by-bool, by-cases, true-not-false, and-true}
 use Rattle.demands.specs.Terms.{howMany}
-use Rattle.demands.specs.Turned.{kind, field, Came, Holds}
+use Rattle.demands.specs.Turned.{kind, field, device, declared, Declares, Came, Holds}
 
 -- a word's kind is one of five
 pub by-five : {G : Type 0} (k : ℕ) → (leb 1 k && leb k 5) ≡ true → (k ≡ 1 → G) → (k ≡ 2 → G) → (k ≡ 3 → G) → (k ≡ 4 → G) → (k ≡ 5 → G) → G
@@ -55,17 +55,24 @@ module _ (ws : List ℕ) (i : ℕ) where
   pub came-before : (k : ℕ) → (kind ws i ≡ k → ⊥) → Came ws (suc i) k → Came ws i k
   came-before k n c = by-last (c .0) i (c .1) (λ z. absurd (n (rw z at (c .2)))) (λ l. (c .0, l, c .2))
 
+  -- a device declared up to word i is declared by it or was before
+  pub declares-told : (d c : ℕ) → Declares ws (suc i) d c → ((kind ws i ≡ 1) × (declared ws i ≡ d) × (field ws i ≡ c)) ⊎ Declares ws i d c
+  declares-told d c h = by-last (h .0) i (h .1) (λ z. inl (rw z at (h .2), rw z at (h .3), rw z at (h .4))) (λ l. inr (h .0, l, h .2, h .3, h .4))
+
+  pub declares-on : (d c : ℕ) → Declares ws i d c → Declares ws (suc i) d c
+  declares-on d c h = (h .0, omega arith, h .2, h .3, h .4)
+
   -- word i ends a hold of device d: a TASK, or a RELEASE of d
   abbrev pub Frees : ℕ → Type 0
   Frees d = (kind ws i ≡ 2) ⊎ ((kind ws i ≡ 4) × (field ws i ≡ d))
 
-  pub holds-claimed : (d : ℕ) → kind ws i ≡ 3 → field ws i ≡ d → Holds ws (suc i) d
+  pub holds-claimed : (d : ℕ) → kind ws i ≡ 3 → device ws i ≡ d → Holds ws (suc i) d
   holds-claimed d k f = (i, omega arith, k, f, λ q a b. absurd (omega arith))
 
   pub holds-kept : (d : ℕ) → Holds ws i d → (Frees d → ⊥) → Holds ws (suc i) d
   holds-kept d h n = (h .0, omega arith, h .2, h .3, λ q a b. by-last q i b (λ z. rw z n) (h .4 q a))
 
-  pub holds-told : (d : ℕ) → Holds ws (suc i) d → ((kind ws i ≡ 3) × (field ws i ≡ d)) ⊎ (Holds ws i d × (Frees d → ⊥))
+  pub holds-told : (d : ℕ) → Holds ws (suc i) d → ((kind ws i ≡ 3) × (device ws i ≡ d)) ⊎ (Holds ws i d × (Frees d → ⊥))
   holds-told d h =
       by-last (h .0) i (h .1) (λ z. inl (rw z at (h .2), rw z at (h .3)))
       (λ l. inr ((h .0, l, h .2, h .3, λ q a b. h .4 q a (omega arith)), h .4 i l (omega arith)))

@@ -6,7 +6,7 @@ use mathlib.Core.Logic.{_↔_, _⊎_}
 use mathlib.Core.List.{List, [], _∷_, _++_, map, flatten, List·Memᴰ}
 use lib.ListN.{length, drop, set, replicate}
 use Rattle.model.specs.Answer.{Answer, given, refused}
-use Rattle.model.specs.Set.{Action, claim, release, Set, lengthsOf, taskAt, actionAt, at, size}
+use Rattle.model.specs.Set.{Action, release, Set, lengthsOf, taskAt, actionAt, at, size}
 use Rattle.model.specs.State.{State, next, sum, rank}
 use Rattle.model.specs.Read.{read}
 use Rattle.model.specs.Analysis.{analyse}
@@ -33,6 +33,7 @@ use Rattle.model.specs.Broker.{
   roundCalls,
 }
 use Rattle.model.specs.Route.{Routed, route}
+use Rattle.demands.specs.Terms.{Claims}
 
 -- an answer that leaves the record as it was
 abbrev pub unchanged : {A : Type 0} → Answer A → Record → Served A
@@ -53,9 +54,9 @@ pub record OfFaulty (words : List ℕ) (n p : ℕ) : Type 0 where
 abbrev pub Allowed : Settings → Type 0
 Allowed c = ((1 ≤ c .share) × (c .share ≤ 255)) × ((1 ≤ c .window) × (c .window ≤ 255))
 
--- an action names a device
+-- an action names a device, whatever its units
 abbrev pub Names : Action → ℕ → Type 0
-Names a d = (a ≡ claim d) ⊎ (a ≡ release d)
+Names a d = Claims a d ⊎ (a ≡ release d)
 
 module _ (s : Set) (m : List ℕ) where
   -- the byte that a map has for a state

@@ -29,8 +29,11 @@ pub record CleanProgram : Type 0 where
   pub in-slice : (bs slice : List ℕ) → 16384 ≤ length slice
       → cleanedIn bs slice ≡ record { count = length (cleanedFile bs); slice = cleanedFile bs ++ drop (length (cleanedFile bs)) slice }
   pub short-slice : (bs slice : List ℕ) → length slice < 16384 → cleanedIn bs slice ≡ record { count = 0; slice = slice }
-  -- computed: the set that example g was, example j, no bytes, and three bytes
+  -- computed: the set that example g was, a set whose claim has three units, example j, a claim of too many units, no bytes, and three bytes
   pub g-written : cleanedFile (fileOf (0x10000008 ∷ 0x20000000 ∷ 0x50000002 ∷ [])) ≡ 0 ∷ 0 ∷ 0 ∷ 0x20 ∷ 1 ∷ 0 ∷ 0 ∷ 0x50 ∷ []
+  pub units-written : cleanedFile (fileOf (0x10000003 ∷ 0x10000004 ∷ 0x20000000 ∷ 0x30020001 ∷ 0x40000001 ∷ 0x50000005 ∷ []))
+      ≡ fileOf (0x10000004 ∷ 0x20000000 ∷ 0x30020000 ∷ 0x40000000 ∷ 0x50000004 ∷ [])
   pub j-written : cleanedFile (fileOf (0x10000001 ∷ 0x20000000 ∷ 0x30000000 ∷ 0x30000000 ∷ [])) ≡ lines ("refused 8 at 3" ∷ [])
+  pub too-many-written : cleanedFile (fileOf (0x10000002 ∷ 0x20000000 ∷ 0x30020000 ∷ [])) ≡ lines ("refused 28 at 2" ∷ [])
   pub nothing-written : cleanedFile [] ≡ lines ("refused 1 at 0" ∷ [])
   pub three-bytes-written : cleanedFile (1 ∷ 0 ∷ 0 ∷ []) ≡ lines ("refused 15 at 0" ∷ [])

@@ -3,7 +3,7 @@ use Prim.Native.Nat.{ℕ, _<_, _≤_}
 use mathlib.Core.Path.{_≡_}
 use mathlib.Core.Logic.{_↔_}
 use mathlib.Core.List.{List, [], _∷_, _++_, map}
-use lib.ListN.{length, take, drop}
+use lib.ListN.{length, take, drop, replicate}
 use Rattle.model.specs.Answer.{given, refused}
 use Rattle.model.specs.Set.{Set, claim, release, lengthsOf, taskAt, actionAt, at}
 use Rattle.model.specs.Layout.{encode, former, WellFormedBy}
@@ -36,8 +36,8 @@ module _ (s : Set) where
     pub in-order : (c d : ℕ) → Kept c → Kept d → c < d → new c < new d
     -- it has its old capacity
     pub capacity : (d : ℕ) → Kept d → at (t .capacities) (new d) ≡ at (s .capacities) d
-    -- and its old claims and releases, in their places
-    pub claims : (k p d : ℕ) → k < length (s .tasks) → p < length (taskAt s k) → Kept d → (actionAt t k p ≡ claim (new d)) ↔ (actionAt s k p ≡ claim d)
+    -- and its old claims, with their units, and releases, in their places
+    pub claims : (k p d e : ℕ) → k < length (s .tasks) → p < length (taskAt s k) → Kept d → (actionAt t k p ≡ claim (new d) e) ↔ (actionAt s k p ≡ claim d e)
     pub releases : (k p d : ℕ) → k < length (s .tasks) → p < length (taskAt s k) → Kept d → (actionAt t k p ≡ release (new d)) ↔ (actionAt s k p ≡ release d)
     -- the same states are permitted, and the map is the same byte for byte
     pub same-permitted : (x : State) → permitted t x ≡ permitted s x
@@ -88,3 +88,10 @@ pub record Cleaning : Type 0 where
       })
   -- and the set that example g was, in a slice that is too short by a word
   pub short-example : clean (0x10000008 ∷ 0x20000000 ∷ 0x50000002 ∷ []) (7 ∷ []) ≡ untouched 25 2 (7 ∷ [])
+  -- claims of three units and of one keep them while their device's number becomes 0; too many units are refused here too
+  pub units-example : clean (0x10000003 ∷ 0x10000004 ∷ 0x20000000 ∷ 0x30020001 ∷ 0x40000001 ∷ 0x30000001 ∷ 0x40000001 ∷ 0x50000007 ∷ []) (replicate 7 7)
+      ≡ record {
+        answer = given 7;
+        slice = 0x10000004 ∷ 0x20000000 ∷ 0x30020000 ∷ 0x40000000 ∷ 0x30000000 ∷ 0x40000000 ∷ 0x50000006 ∷ [];
+      }
+  pub units-refused : clean (0x10000002 ∷ 0x20000000 ∷ 0x30020000 ∷ []) (7 ∷ []) ≡ untouched 28 2 (7 ∷ [])

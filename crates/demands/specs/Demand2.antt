@@ -1,5 +1,5 @@
--- Demand 2: the reader accepts the sets of the layout and no others; the forbidden boxes are those of the published rule, and a state lies in one exactly when
--- some device has more holders than its capacity; dead states are listed once each, ascending, in kind 9 those to which allowed steps lead from the
+-- Demand 2: the reader accepts the sets of the layout and no others; the forbidden boxes are those of the published rule with units counted, and a state lies in one exactly when
+-- some device has more units held than its capacity; dead states are listed once each, ascending, in kind 9 those to which allowed steps lead from the
 -- start, in kind A the others.
 use Prim.Native.Nat.{ℕ, _<_}
 use mathlib.Core.Path.{_≡_}
@@ -39,7 +39,7 @@ ReachedRank s r = IsReached s (stateAt (lengthsOf s) r)
 pub record PlanExact (s : Set) (p : Plan) : Type 0 where
   -- the forbidden boxes are those of the set, each with its device: `ForbiddenRule` says which they are, and in which order
   pub rule : p .forbidden ≡ forbidden s
-  -- a state of the grid lies in one exactly if some device has more holders than its capacity
+  -- a state of the grid lies in one exactly if some device has more units held than its capacity
   pub exact : (x : State) → InGrid (lengthsOf s) x → (covered (map (λ f. f .box) (p .forbidden)) x ≡ true) ↔ Overfull s x
   -- the unsafe boxes are those of the set, in the order made: `UnsafeRule`
   pub made : p .unsafe ≡ unsafeOf s

@@ -65,8 +65,8 @@ abbrev pub d : Set
 d = record {
   capacities = 1 ∷ 1 ∷ 1 ∷ [];
   tasks =
-      (claim 2 ∷ claim 0 ∷ release 2 ∷ claim 1 ∷ release 1 ∷ release 0 ∷ [])
-      ∷ (claim 1 ∷ claim 2 ∷ release 2 ∷ claim 0 ∷ release 0 ∷ release 1 ∷ [])
+      (claim 2 0 ∷ claim 0 0 ∷ release 2 ∷ claim 1 0 ∷ release 1 ∷ release 0 ∷ [])
+      ∷ (claim 1 0 ∷ claim 2 0 ∷ release 2 ∷ claim 0 0 ∷ release 0 ∷ release 1 ∷ [])
       ∷ [];
 }
 
@@ -74,7 +74,7 @@ d = record {
 abbrev pub e : Set
 e = record {
   capacities = 2 ∷ [];
-  tasks = (claim 0 ∷ release 0 ∷ []) ∷ (claim 0 ∷ release 0 ∷ []) ∷ (claim 0 ∷ release 0 ∷ []) ∷ [];
+  tasks = (claim 0 0 ∷ release 0 ∷ []) ∷ (claim 0 0 ∷ release 0 ∷ []) ∷ (claim 0 0 ∷ release 0 ∷ []) ∷ [];
 }
 
 -- example r: two tasks with two dead states, of which only one is reached

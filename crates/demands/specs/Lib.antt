@@ -1,5 +1,5 @@
 -- The statements: words that they share, the desk examples, the sections of docs/SCOPE.md in its order, the demands over them, each call's refusals, the printer, stored
--- plans, parts per thousand, fair shares, trials, and what hosts are told.
+-- plans, parts per thousand, fair shares, trials, units, and what hosts are told.
 pub mod Terms
 pub mod Places
 pub mod Examples
@@ -26,4 +26,5 @@ pub mod StoredPlans
 pub mod PerThousand
 pub mod FairShares
 pub mod Trials
+pub mod Units
 pub mod Hosts

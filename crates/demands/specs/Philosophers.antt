@@ -9,7 +9,7 @@ use Rattle.demands.specs.Terms.{_to_}
 
 -- the task between devices i and i + 1, counted round
 abbrev pub philosopher : ℕ → Task
-philosopher i = claim i ∷ claim ((i + 1) % 5) ∷ release i ∷ release ((i + 1) % 5) ∷ []
+philosopher i = claim i 0 ∷ claim ((i + 1) % 5) 0 ∷ release i ∷ release ((i + 1) % 5) ∷ []
 
 -- five of them round a table of five devices
 abbrev pub five : Set

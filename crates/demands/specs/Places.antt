@@ -13,7 +13,7 @@ pub record Places : Type 0 where
   -- a number of a list, 0 past its end; a task, an action and a side, counted from 0
   pub number : (l : List ℕ) (t : ℕ) → at l t ≡ getD l t 0
   pub task : (s : Set) (t : ℕ) → taskAt s t ≡ getD (s .tasks) t []
-  pub action : (s : Set) (t p : ℕ) → actionAt s t p ≡ getD (getD (s .tasks) t []) p (claim 0)
+  pub action : (s : Set) (t p : ℕ) → actionAt s t p ≡ getD (getD (s .tasks) t []) p (claim 0 0)
   pub a-side : (b : Box) (t : ℕ) → side b t ≡ getD b t (0 to 0)
   -- the L of each task
   pub counts : (s : Set) → lengthsOf s ≡ map length (s .tasks)

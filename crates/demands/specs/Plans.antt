@@ -55,8 +55,8 @@ abbrev pub v : Set
 v = record {
   capacities = 1 ∷ 1 ∷ 1 ∷ 1 ∷ [];
   tasks =
-      (claim 0 ∷ times 4 (claim 2 ∷ release 2 ∷ []) (claim 1 ∷ release 1 ∷ release 0 ∷ []))
-      ∷ (claim 1 ∷ times 4 (claim 3 ∷ release 3 ∷ []) (claim 0 ∷ release 0 ∷ release 1 ∷ []))
+      (claim 0 0 ∷ times 4 (claim 2 0 ∷ release 2 ∷ []) (claim 1 0 ∷ release 1 ∷ release 0 ∷ []))
+      ∷ (claim 1 0 ∷ times 4 (claim 3 0 ∷ release 3 ∷ []) (claim 0 0 ∷ release 0 ∷ release 1 ∷ []))
       ∷ [];
 }
 

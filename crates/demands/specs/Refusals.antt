@@ -15,7 +15,7 @@ use Rattle.model.specs.StoredPlan.{locate}
 
 -- a set's own refusals by the former rules, and by the present ones
 abbrev pub ofFormerSet : List ℕ
-ofFormerSet = 1 ∷ 2 ∷ 3 ∷ 4 ∷ 5 ∷ 6 ∷ 7 ∷ 8 ∷ 9 ∷ 10 ∷ 11 ∷ 12 ∷ []
+ofFormerSet = 1 ∷ 2 ∷ 3 ∷ 4 ∷ 5 ∷ 6 ∷ 7 ∷ 28 ∷ 8 ∷ 9 ∷ 10 ∷ 11 ∷ 12 ∷ []
 
 abbrev pub ofSet : List ℕ
 ofSet = ofFormerSet ++ (24 ∷ [])

@@ -6,7 +6,7 @@ use mathlib.Core.Bool.{false}
 use mathlib.Core.List.{List}
 use lib.ListN.{length}
 use Rattle.model.specs.Answer.{given, refused}
-use Rattle.model.specs.Set.{claim, release, Set, lengthsOf, taskAt, actionAt, at, size}
+use Rattle.model.specs.Set.{release, Set, lengthsOf, taskAt, actionAt, at, size}
 use Rattle.model.specs.State.{State, InGrid, next, sum, rank}
 use Rattle.model.specs.Hold.{permitted}
 use Rattle.model.specs.Read.{read}
@@ -14,6 +14,7 @@ use Rattle.model.specs.Layout.{Rules, WellFormedBy}
 use Rattle.model.specs.Analysis.{analyse}
 use Rattle.model.specs.Record.{Record, fresh, stateIn}
 use Rattle.model.specs.Broker.{Settings, granted, finished, share-spent, busy, held, grant, bid, again, Call, afterCalls}
+use Rattle.demands.specs.Terms.{Claims}
 use Rattle.demands.specs.MapDemand.{IsOpen, IsUnsafe}
 use Rattle.demands.specs.Calls.{unchanged, Allowed, Names}
 
@@ -43,11 +44,11 @@ module _ (words m : List ℕ) (s : Set) (r : Record) where
       pub is-held : (t : ℕ) → at x t < length (taskAt s t) → IsUnsafe s (next x t) → bid words m c r t ≡ unchanged (given (held (rank (lengthsOf s) (next x t)))) r
       pub is-busy : (t : ℕ) → at x t < length (taskAt s t) → permitted s (next x t) ≡ false → (d : ℕ) → Names (actionAt s t (at x t)) d
           → bid words m c r t ≡ unchanged (given (busy d)) r
-      -- a release is Granted or Share spent, so that Busy and Held only ever answer a claim
+      -- a release is Granted or Share spent, so that Busy and Held only ever answer a claim; Busy names its device, whatever the units
       pub release-goes : (t d : ℕ) → at x t < length (taskAt s t) → actionAt s t (at x t) ≡ release d → Goes t ⊎ Spent t
-      pub busy-claim : (t d : ℕ) → bid words m c r t .answer ≡ given (busy d) → (at x t < length (taskAt s t)) × (actionAt s t (at x t) ≡ claim d)
+      pub busy-claim : (t d : ℕ) → bid words m c r t .answer ≡ given (busy d) → (at x t < length (taskAt s t)) × Claims (actionAt s t (at x t)) d
       pub held-claim : (t p : ℕ) → bid words m c r t .answer ≡ given (held p)
-          → (at x t < length (taskAt s t)) × (p ≡ rank (lengthsOf s) (next x t)) × ((d : ℕ) × (actionAt s t (at x t) ≡ claim d))
+          → (at x t < length (taskAt s t)) × (p ≡ rank (lengthsOf s) (next x t)) × ((d : ℕ) × Claims (actionAt s t (at x t)) d)
       -- beyond its share a task is granted only where no other task with share left would be
       pub beyond-share : (t : ℕ) → bid words m c r t .answer ≡ given granted → c .share ≤ at (r .counts) t
           → (u : ℕ) → (u ≡ t → ⊥) → at (r .counts) u < c .share → at x u < length (taskAt s u) → IsOpen s (next x u) → ⊥

@@ -7,6 +7,7 @@ mod sets;
 mod shares;
 mod stored;
 mod trials;
+mod units;
 
 fn main() {
     let words = sets::A;
@@ -26,6 +27,10 @@ fn main() {
     stored::refused();
     stored::cleaned();
     stored::others();
+    units::patch();
+    units::crossed();
+    units::refused();
+    units::cleaned();
     questions::on_a();
     questions::on_d();
     questions::on_others();

@@ -9,7 +9,7 @@ use cleaner::CleanAnswer;
 use records::Record;
 
 // What a slice of words holds before a cleaning; no word of a set.
-const BLANK: u32 = 9;
+pub const BLANK: u32 = 9;
 
 // The cleaned set's words, and one too few for them.
 const CLEANED: usize = 2;
@@ -53,7 +53,7 @@ pub fn others() {
 }
 
 // A cleaning, and its slice afterwards.
-fn clean_line(label: &[u8], words: &[u32], slice: &mut [u32]) {
+pub fn clean_line(label: &[u8], words: &[u32], slice: &mut [u32]) {
     console::text(label);
     console::text(b" through the cleaner: ");
     match cleaner::clean(words, slice) {

@@ -1,9 +1,10 @@
 -- The choices over a task's sides, one turn at a time.
-use Prim.Native.Nat.{ℕ, zero, suc, _+_, _-_, _*_, _/_, _%_, _^_, _≤_, _<_}
+use Prim.Native.Nat.{ℕ, zero, suc, min, _+_, _-_, _*_, _/_, _%_, _^_, _≤_, _<_}
 use native.Mathlib.Nat.{eq-or-lt-of-le, pow-suc}
 use native.Mathlib.Numerals.{add-one}
 use native.Mathlib.Omega.{arith}
 use mathlib.Core.Path.{_≡_, refl, ap, _∙_}
+use mathlib.Core.Bool.{cond}
 use mathlib.Core.List.{List, [], _∷_, _++_, append-nil}
 use lib.Arith.{lt-one}
 use lib.ListN.{length, take, set, length-set}
@@ -16,13 +17,13 @@ use Rattle.model.proofs.Bools.{by-bool, by-cases}
 use Rattle.plan_words.specs.Words.{upTo}
 use Rattle.plan_words.proofs.UpTo.{same-words}
 use Rattle.forbidden_boxes.specs.Rows.{ROW, WHOLE, ROWS, Sized, Whole}
-use Rattle.forbidden_boxes.specs.Choices.{holdWords, sideCount, firstSide, choiceWords}
+use Rattle.forbidden_boxes.specs.Choices.{justOver, sideCount, firstSide, sumWith, leastWith, holdWords, choiceWords}
 
--- a mask with ones is not 0
-pub not-empty : (m k : ℕ) → ones m ≡ k + 1 → 0 < m
+-- a mask whose tasks can exceed a capacity is not 0
+pub not-empty : (m s most : ℕ) → s < ones m * most → 0 < m
 unfolding ones onesIn
-not-empty zero k e = absurd (omega arith)
-not-empty (suc m) k e = omega arith
+not-empty zero s most h = absurd (omega arith)
+not-empty (suc m) s most h = omega arith
 
 -- a mask that is not 0 has a task left
 pub some-left : (m n : ℕ) → m < 2 ^ n → 0 < m → 0 < n
@@ -42,8 +43,8 @@ half-some (suc zero) p e = absurd (e refl)
 half-some (suc (suc m)) p e = omega arith
 
 -- a side that is read stands in the rows
-pub in-rows : {rows holds : List ℕ} (t m : ℕ) {count first i : ℕ} → Sized rows holds → t < 8 → count ≡ sideCount holds t m → first ≡ firstSide t m
-    → i < count → first + i < ROWS
+pub in-rows : {rows units holds : List ℕ} (t m : ℕ) {count first i : ℕ} → Sized rows units holds → t < 8 → count ≡ sideCount holds t m
+    → first ≡ firstSide t m → i < count → first + i < ROWS
 unfolding sideCount firstSide
 in-rows t m sized h e f l =
     by-bool (eqb (m % 2) 1) (λ q. omega (arith, rw q at e, rw q at f, sized .few t)) (λ q. omega (arith, rw q at e, rw q at f))
@@ -72,41 +73,50 @@ whole-one rows sides t h w u g l =
     below : (u ≡ t → ⊥) → u < 0 + t
     below e = by-cases (eq-or-lt-of-le (let k : u ≤ t = omega arith in k)) (λ z. absurd (e z)) (λ k. omega arith)
 
-module _ (rows holds : List ℕ) (hd : ℕ) where
+module _ (rows units holds : List ℕ) (hd s : ℕ) where
   -- where no task of the set is left, each is whole
-  none-chosen : (n t : ℕ) (sides : List ℕ) → t + n ≤ length sides → Whole rows sides t n
-      → choiceWords rows holds hd n t 0 (take t sides) ≡ hd ∷ take (t + n) sides
-  unfolding choiceWords sideCount firstSide upTo
-  none-chosen zero t sides h w = let z : t + 0 ≡ t = omega arith in rw z
-  none-chosen (suc n) t sides h w =
+  none-chosen : (n t sum least : ℕ) (sides : List ℕ) → t + n ≤ length sides → Whole rows sides t n
+      → choiceWords rows units holds hd s n t 0 sum least (take t sides) ≡ cond (justOver s sum least) (hd ∷ take (t + n) sides) []
+  unfolding choiceWords sideCount firstSide sumWith leastWith upTo
+  none-chosen zero t sum least sides h w = let z : t + 0 ≡ t = omega arith in rw z
+  none-chosen (suc n) t sum least sides h w =
       let z : t * ROW + WHOLE + 0 ≡ t * ROW + WHOLE = omega arith in
       let y : t + suc n ≡ t + 1 + n = omega arith in
       rw (z, ← w t (omega arith) (omega arith), ← take-one sides t (omega arith), append-nil, y)
-      (none-chosen n (t + 1) sides (omega arith) (λ u g l. w u (omega arith) (omega arith)))
+      (none-chosen n (t + 1) sum least sides (omega arith) (λ u g l. w u (omega arith) (omega arith)))
 
-  module _ (n t m first : ℕ) (before : List ℕ) where
+  module _ (n t m sum least first : ℕ) (before : List ℕ) where
     -- the boxes with the i-th side
     abbrev pub turn : ℕ → List ℕ
-    turn i = choiceWords rows holds hd (n - 1) (t + 1) (m / 2) (before ++ (at rows (first + i) ∷ []))
+    turn i =
+        choiceWords rows units holds hd s (n - 1) (t + 1) (m / 2) (sumWith m sum (at units (first + i))) (leastWith m least (at units (first + i)))
+        (before ++ (at rows (first + i) ∷ []))
 
     pub each-side : {count : ℕ} → 0 < n → count ≡ sideCount holds t m → first ≡ firstSide t m
-        → choiceWords rows holds hd n t m before ≡ upTo count 0 turn
+        → choiceWords rows units holds hd s n t m sum least before ≡ upTo count 0 turn
     unfolding choiceWords
     each-side {count} h e f =
-        let s : n ≡ suc (n - 1) = omega arith in
-        ap (λ (k : ℕ). choiceWords rows holds hd k t m before) s ∙ rw (e, f)
+        let q : n ≡ suc (n - 1) = omega arith in
+        ap (λ (k : ℕ). choiceWords rows units holds hd s k t m sum least before) q ∙ rw (e, f)
+
+  -- the same units and sides before give the same boxes
+  pub same-choice : (n t m : ℕ) {sum sum′ least least′ : ℕ} {before before′ : List ℕ} → sum ≡ sum′ → least ≡ least′ → before ≡ before′
+      → choiceWords rows units holds hd s n t m sum least before ≡ choiceWords rows units holds hd s n t m sum′ least′ before′
+  same-choice n t m e f g = rw (e, f, g)
 
   -- where only the first task is left, it alone is over its holds
-  pub last-chosen : (n t m : ℕ) (sides : List ℕ) → m ≡ 1 → 0 < n → t + n ≤ length sides → Whole rows sides t n
-      → choiceWords rows holds hd n t m (take t sides) ≡ holdWords rows hd (t + n) t sides (at holds t)
-  unfolding choiceWords sideCount firstSide holdWords
-  last-chosen zero t m sides e p h w = absurd (omega arith)
-  last-chosen (suc n) t m sides e p h w =
+  pub last-chosen : (n t m sum least : ℕ) (sides : List ℕ) → m ≡ 1 → 0 < n → t + n ≤ length sides → Whole rows sides t n
+      → choiceWords rows units holds hd s n t m sum least (take t sides) ≡ holdWords rows units hd s (t + n) t sides sum least (at holds t)
+  unfolding choiceWords sideCount firstSide sumWith leastWith holdWords
+  last-chosen zero t m sum least sides e p h w = absurd (omega arith)
+  last-chosen (suc n) t m sum least sides e p h w =
       rw e
       (same-words _ _
-      (λ i.
-      let v = at rows (t * ROW + i) in
+      (λ j.
+      let v = at rows (t * ROW + j) in
+      let u = at units (t * ROW + j) in
       let y : t + suc n ≡ t + 1 + n = omega arith in
       rw (y, ← chosen sides (take t sides) t v (omega arith) refl)
-      (none-chosen n (t + 1) (set sides t v) (omega (arith, length-set sides t v)) (whole-set rows sides t n v (λ u g l. w u (omega arith) (omega arith)))))
+      (none-chosen n (t + 1) (sum + u) (min least u) (set sides t v) (omega (arith, length-set sides t v))
+      (whole-set rows sides t n v (λ u g l. w u (omega arith) (omega arith)))))
       (at holds t) 0)

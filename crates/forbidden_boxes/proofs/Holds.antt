@@ -8,23 +8,23 @@ use lib.ListN.{length}
 use lib.Dec.{eqb}
 use borrow.Author.Tests.{eq-eqb, ne-eqb, not-true}
 use Rattle.model.specs.Set.{Action, claim, release, deviceOf, Task, balanced}
-use Rattle.model.specs.Hold.{Interval, heldTo, holdsFrom}
+use Rattle.model.specs.Hold.{Hold, heldTo, holdsFrom}
 use Rattle.model.proofs.Bools.{by-bool, true-not-false, and-true}
 
--- the holds that close after position p: the one open since `low`, if device d is held, and those to come
-unfoldable pub toClose : ℕ → Bool → ℕ → ℕ → Task → List Interval
-toClose d h low p rest = cond h (record { low = low; high = heldTo d p rest } ∷ holdsFrom d p rest) (holdsFrom d p rest)
+-- the holds that close after position p: the one of so many units open since `low`, if device d is held, and those to come
+unfoldable pub toClose : ℕ → Bool → ℕ → ℕ → ℕ → Task → List Hold
+toClose d h low taken p rest = cond h (record { over = record { low = low; high = heldTo d p rest }; units = taken } ∷ holdsFrom d p rest) (holdsFrom d p rest)
 
-module _ (d low p : ℕ) (h : Bool) (rest : Task) where
+module _ (d low taken p : ℕ) (h : Bool) (rest : Task) where
   -- a claim of d: it was not held, and a hold opens
-  pub record Opens : Type 0 where
+  pub record Opens (u : ℕ) : Type 0 where
     pub was : h ≡ false
     pub balance : balanced d true rest ≡ true
-    pub same : toClose d h low p (claim d ∷ rest) ≡ toClose d true (suc p) (suc p) rest
+    pub same : toClose d h low taken p (claim d u ∷ rest) ≡ toClose d true (suc p) (suc u) (suc p) rest
 
-  pub opens : balanced d h (claim d ∷ rest) ≡ true → Opens
+  pub opens : (u : ℕ) → balanced d h (claim d u ∷ rest) ≡ true → Opens u
   unfolding balanced toClose holdsFrom
-  opens b =
+  opens u b =
       let e : eqb d d ≡ true = eq-eqb d d refl in
       let r = and-true (not h) (balanced d true rest) (rw e at b) in
       let n : h ≡ false = not-true h (r .0) in
@@ -33,7 +33,8 @@ module _ (d low p : ℕ) (h : Bool) (rest : Task) where
   -- a release of d: it was held, and that hold is over the positions to p
   pub record HoldCloses : Type 0 where
     pub balance : balanced d false rest ≡ true
-    pub same : toClose d h low p (release d ∷ rest) ≡ record { low = low; high = p } ∷ toClose d false low (suc p) rest
+    pub same : toClose d h low taken p (release d ∷ rest)
+        ≡ record { over = record { low = low; high = p }; units = taken } ∷ toClose d false low taken (suc p) rest
 
   pub closes : balanced d h (release d ∷ rest) ≡ true → HoldCloses
   unfolding balanced toClose holdsFrom heldTo
@@ -45,11 +46,11 @@ module _ (d low p : ℕ) (h : Bool) (rest : Task) where
   -- an action on another device
   pub record HoldPasses (a : Action) : Type 0 where
     pub balance : balanced d h rest ≡ true
-    pub same : toClose d h low p (a ∷ rest) ≡ toClose d h low (suc p) rest
+    pub same : toClose d h low taken p (a ∷ rest) ≡ toClose d h low taken (suc p) rest
 
   pub passes : (a : Action) → (deviceOf a ≡ d → ⊥) → balanced d h (a ∷ rest) ≡ true → HoldPasses a
   unfolding balanced toClose holdsFrom heldTo deviceOf
-  passes (claim e) n b = let k : eqb e d ≡ false = ne-eqb e d n in record { balance = rw k at b; same = rw k }
+  passes (claim e u) n b = let k : eqb e d ≡ false = ne-eqb e d n in record { balance = rw k at b; same = rw k }
   passes (release e) n b = let k : eqb e d ≡ false = ne-eqb e d n in record { balance = rw k at b; same = rw k }
 
 -- each hold takes two actions, an open one its release
@@ -57,7 +58,7 @@ pub holds-count : (d p : ℕ) (h : Bool) (task : Task) → balanced d h task ≡
 unfolding balanced holdsFrom
 holds-count d p true [] b = true-not-false false b refl
 holds-count d p false [] b = omega arith
-holds-count d p h (claim e ∷ rest) b =
+holds-count d p h (claim e u ∷ rest) b =
     by-bool (eqb e d)
     (λ k.
     let r = and-true (not h) (balanced d true rest) (rw k at b) in

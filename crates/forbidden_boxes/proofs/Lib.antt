@@ -1,9 +1,11 @@
 pub mod Holds
 pub mod Gather
 pub mod Made
+pub mod Declared
+pub mod Most
 pub mod Chosen
+pub mod Sums
 pub mod Boxes
 pub mod Claims
-pub mod Declared
 pub mod Device
 pub mod Walked

@@ -17,57 +17,72 @@ use Rattle.model.proofs.Lists.{at-zeros}
 use Rattle.forbidden_boxes.proofs.Gather.{task-length}
 
 -- the word over all positions, put at the row's end
-pub row-made : (words : List ℕ) (start n d t : ℕ) (before rows : List ℕ) (count v : ℕ) → HoldSides words start n d t before count rows
-    → t * ROW + ROW ≤ length rows → v ≡ sideWord t (record { low = 0; high = n }) → RowMade words start n d t before count (set rows (t * ROW + WHOLE) v)
-row-made words start n d t before rows count v made room e =
+pub row-made : (words : List ℕ) (start n d t : ℕ) (rows₀ units₀ rows units : List ℕ) (count v : ℕ)
+    → HoldSides words start n d t rows₀ units₀ count rows units → t * ROW + ROW ≤ length rows → v ≡ sideWord t (record { low = 0; high = n })
+    → RowMade words start n d t rows₀ units₀ count (set rows (t * ROW + WHOLE) v) units
+row-made words start n d t rows₀ units₀ rows units count v made room e =
     let l = made .listed in
     record {
       row = record {
         listed = record {
           count = l .count;
           few = l .few;
-          sides = λ j h. getD-set-other rows (t * ROW + WHOLE) (t * ROW + j) v 0 (λ y. absurd (omega (arith, l .few))) ∙ l .sides j h;
+          each = λ j h. record {
+            side = getD-set-other rows (t * ROW + WHOLE) (t * ROW + j) v 0 (λ y. absurd (omega (arith, l .few))) ∙ l .each j h .side;
+            taken = l .each j h .taken;
+          };
         };
         whole = getD-set-same rows (t * ROW + WHOLE) v 0 (omega arith)
             ∙ e
-            ∙ ap (λ (m : ℕ). sideWord t (record { low = 0; high = m })) (sym (task-length words start n d t before));
+            ∙ ap (λ (m : ℕ). sideWord t (record { low = 0; high = m })) (sym (task-length words start n d t rows₀ units₀));
       };
       kept = λ i h. getD-set-other rows (t * ROW + WHOLE) i v 0 (λ y. absurd (omega arith)) ∙ made .kept i h;
+      kept-units = made .kept-units;
     }
 
 -- a row before the one that is made
-row-kept : {d u t n : ℕ} {task : Task} {before after : List ℕ} → u < t → RowsBefore t before after → Row d u task n before → Row d u task n after
-row-kept {d} {u} {t} h k r =
+row-kept : {d u t n : ℕ} {task : Task} {rows₀ units₀ rows units : List ℕ} → u < t → RowsBefore t rows₀ rows → RowsBefore t units₀ units
+    → Row d u task n rows₀ units₀ → Row d u task n rows units
+row-kept {d} {u} {t} h k m r =
     let l = r .listed in
     record {
       listed = record {
         count = l .count;
         few = l .few;
-        sides = λ j g. k (u * ROW + j) (omega (arith, l .few)) ∙ l .sides j g;
+        each = λ j g. record {
+          side = k (u * ROW + j) (omega (arith, l .few)) ∙ l .each j g .side;
+          taken = m (u * ROW + j) (omega (arith, l .few)) ∙ l .each j g .taken;
+        };
       };
       whole = k (u * ROW + WHOLE) (omega arith) ∙ r .whole;
     }
 
 -- the rows of the tasks before t
 module _ (s : Set) (d : ℕ) where
-  pub none-made : (rows : List ℕ) → length rows ≡ ROWS → RowsMade s 0 d (replicate 8 0) rows
-  none-made rows h =
+  pub none-made : (rows units : List ℕ) → length rows ≡ ROWS → length units ≡ ROWS → RowsMade s 0 d (replicate 8 0) rows units
+  none-made rows units h k =
       record {
-        sized = record { eight-rows = h; eight-holds = refl; few = λ t. rw (at-zeros 8 t) (omega arith) };
+        sized = record { eight-rows = h; eight-units = k; eight-holds = refl; few = λ t. rw (at-zeros 8 t) (omega arith) };
         row = λ t l. absurd (omega arith);
       }
 
-  pub one-made : {words rows holds rows′ : List ℕ} {start n t count : ℕ} → RowsMade s t d holds rows → t < 8 → length rows′ ≡ length rows
-      → taskIn words start n ≡ taskAt s t → RowMade words start n d t rows count rows′ → RowsMade s (t + 1) d (set holds t count) rows′
-  one-made {words} {rows} {holds} {rows′} {start} {n} {t} {count} made h e same r =
+  pub one-made : {words rows units holds rows′ units′ : List ℕ} {start n t count : ℕ} → RowsMade s t d holds rows units → t < 8 → length rows′ ≡ length rows
+      → length units′ ≡ length units → taskIn words start n ≡ taskAt s t → RowMade words start n d t rows units count rows′ units′
+      → RowsMade s (t + 1) d (set holds t count) rows′ units′
+  one-made {words} {rows} {units} {holds} {rows′} {units′} {start} {n} {t} {count} made h e f same r =
       let z = made .sized in
       rw (add-one t)
       (record {
-        sized = record { eight-rows = e ∙ z .eight-rows; eight-holds = length-set holds t count ∙ z .eight-holds; few = at-most };
+        sized = record {
+          eight-rows = e ∙ z .eight-rows;
+          eight-units = f ∙ z .eight-units;
+          eight-holds = length-set holds t count ∙ z .eight-holds;
+          few = at-most;
+        };
         row = λ u g.
             by-cases (eq-or-lt-of-le (le-of-suc-le-suc g))
             (λ q. rw (q, here, ← same) (r .row))
-            (λ l. rw (getD-set-other holds t u count 0 (λ y. absurd (omega arith))) (row-kept l (r .kept) (made .row u l)));
+            (λ l. rw (getD-set-other holds t u count 0 (λ y. absurd (omega arith))) (row-kept l (r .kept) (r .kept-units) (made .row u l)));
       })
     where
       here : at (set holds t count) t ≡ count

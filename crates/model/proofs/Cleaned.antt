@@ -8,7 +8,7 @@ use lib.ListN.{length, length-append, length-map, List·getD-map}
 use lib.Dec.{ltb}
 use borrow.Author.Tests.{ltb-true, ltb-false, ne-eqb}
 use Rattle.model.specs.Below.{any, howMany}
-use Rattle.model.specs.Set.{Action, claim, release, deviceOf, Task, Set, lengthsOf, taskAt, claimed, at, balanced, GoodTask}
+use Rattle.model.specs.Set.{Action, claim, release, deviceOf, unitsTaken, Task, Set, lengthsOf, taskAt, claimed, at, balanced, GoodTask}
 use Rattle.model.specs.Layout.{taskWords, body, withEnd, encode, Rules, WellFormedBy, WellFormed}
 use Rattle.model.specs.State.{State}
 use Rattle.model.specs.Hold.{held, permitted}
@@ -105,21 +105,34 @@ module _ (tasks : List Task) (named : Named tasks) where
   -- ---- the tasks are good ones for the kept devices
   module _ (cs : List ℕ) where
     -- an action of theirs names one of the kept devices
-    action-declared : (a : Action) → (deviceOf a < length cs) × (f (deviceOf a) ≡ true) → deviceOf (renamed new a) < length (keptFrom f 0 cs)
+    abbrev Names : Action → Type 0
+    Names a = (deviceOf a < length cs) × (f (deviceOf a) ≡ true)
+
+    action-declared : (a : Action) → Names a → deviceOf (renamed new a) < length (keptFrom f 0 cs)
     unfolding renamed deviceOf
-    action-declared (claim d) h = new-of cs d (h .0) (h .1) .0
+    action-declared (claim d u) h = new-of cs d (h .0) (h .1) .0
     action-declared (release d) h = new-of cs d (h .0) (h .1) .0
 
-    task-good : (task : Task) → Each (λ a. f (deviceOf a) ≡ true) task → GoodTask (length cs) task → GoodTask (length (keptFrom f 0 cs)) (map (renamed new) task)
+    -- and takes no more units than that has
+    action-units : (a : Action) → Names a → unitsTaken a ≤ at cs (deviceOf a) → unitsTaken (renamed new a) ≤ at (keptFrom f 0 cs) (deviceOf (renamed new a))
+    unfolding renamed deviceOf unitsTaken
+    action-units (claim d u) h k = rw (new-of cs d (h .0) (h .1) .1) k
+    action-units (release d) h k = omega arith
+
+    task-good : (task : Task) → Each (λ a. f (deviceOf a) ≡ true) task → GoodTask cs task → GoodTask (keptFrom f 0 cs) (map (renamed new) task)
     unfolding balanced
     task-good task claims good =
-        let kept = length (keptFrom f 0 cs) in
-        let names : Each (λ a. (deviceOf a < length cs) × (f (deviceOf a) ≡ true)) task =
-        each-both _ _ (λ a. (deviceOf a < length cs) × (f (deviceOf a) ≡ true)) (λ a p q. (p, q)) task (each-place (λ a. deviceOf a < length cs) (claim 0) task (good .declared)) claims in
+        let left = keptFrom f 0 cs in
+        let kept = length left in
+        let names : Each Names task = each-both _ _ Names (λ a p q. (p, q)) task (each-place (λ a. deviceOf a < length cs) (claim 0 0) task (good .declared)) claims in
+        let within = each-place (λ a. unitsTaken a ≤ at cs (deviceOf a)) (claim 0 0) task (good .units) in
         record {
           actions = rw (length-map {B = Action} task (renamed new)) (good .actions);
-          declared = each-at (λ a. deviceOf a < kept) (claim 0) (map (renamed new) task)
+          declared = each-at (λ a. deviceOf a < kept) (claim 0 0) (map (renamed new) task)
               (each-map _ (λ a. deviceOf a < kept) (renamed new) action-declared task names);
+          units = each-at (λ a. unitsTaken a ≤ at left (deviceOf a)) (claim 0 0) (map (renamed new) task)
+              (each-map (λ a. unitsTaken (renamed new a) ≤ at left (deviceOf (renamed new a))) (λ a. unitsTaken a ≤ at left (deviceOf a)) (renamed new) (λ a k. k) task
+              (each-both Names _ _ action-units task names within));
           balance = λ e.
               by-bool (ltb e kept)
               (λ k.
@@ -142,7 +155,7 @@ all-named s w = all-claimed (s .tasks) (each-place Balanced [] (s .tasks) (λ t 
 
 -- and name declared devices
 pub all-declared : {rules : Rules} (s : Set) → WellFormedBy rules s → Each (Each (λ a. deviceOf a < length (s .capacities))) (s .tasks)
-all-declared s w = each-place _ [] (s .tasks) (λ t h. each-place _ (claim 0) (taskAt s t) (w .each-task t h .declared))
+all-declared s w = each-place _ [] (s .tasks) (λ t h. each-place _ (claim 0 0) (taskAt s t) (w .each-task t h .declared))
 
 -- ---- the cleaned set
 module _ (s : Set) where

@@ -7,9 +7,9 @@ use mathlib.Core.List.{List, _∷_}
 use lib.Dec.{eqb, ltb, leb}
 use borrow.Author.Tests.{ltb-false, leb-true, eqb-true, eqb-false, not-false}
 use Rattle.model.specs.Set.{Task, Set}
-use Rattle.model.specs.Layout.{word, kindOf, fieldOf, DEVICE, TASK, CLAIM, RELEASE, END}
+use Rattle.model.specs.Layout.{word, kindOf, fieldOf, deviceBits, DEVICE, TASK, CLAIM, RELEASE, END}
 use Rattle.model.specs.Answer.{given, refused}
-use Rattle.model.specs.Read.{Scan, note, holdsNow, holdsSome, outOfOrder, fieldAllowed, tooMany, fault, Reading, readFrom}
+use Rattle.model.specs.Read.{Scan, note, holdsNow, holdsSome, outOfOrder, fieldAllowed, tooMany, tooManyUnits, fault, Reading, readFrom}
 use Rattle.model.proofs.Bools.{by-bool, and-true}
 use Rattle.model.proofs.Answers.{refused-given}
 use Rattle.model.proofs.Words.{setWith, kind-word, field-word, word-parts}
@@ -25,14 +25,15 @@ pub record Passes (s : Scan) (i k f : ℕ) : Type 0 where
   pub order : outOfOrder s k ≡ false
   pub field : fieldAllowed s i k f ≡ true
   pub room : tooMany s k ≡ false
-  pub claimed : (eqb k CLAIM && holdsNow s f) ≡ false
+  pub units : (eqb k CLAIM && tooManyUnits s f) ≡ false
+  pub claimed : (eqb k CLAIM && holdsNow s (deviceBits f)) ≡ false
   pub released : (eqb k RELEASE && not (holdsNow s f)) ≡ false
   pub closed : ((eqb k TASK || eqb k END) && holdsSome s) ≡ false
 
 module _ (s : Scan) (i k f : ℕ) where
   pub passes-fault : Passes s i k f → fault s i k f ≡ 0
-  unfolding fault outOfOrder fieldAllowed tooMany
-  passes-fault p = rw (p .before-end, p .kind, p .order, p .field, p .room, p .claimed, p .released, p .closed)
+  unfolding fault outOfOrder fieldAllowed tooMany tooManyUnits
+  passes-fault p = rw (p .before-end, p .kind, p .order, p .field, p .room, p .units, p .claimed, p .released, p .closed)
 
   pub fault-passes : fault s i k f ≡ 0 → Passes s i k f
   unfolding fault
@@ -42,7 +43,8 @@ module _ (s : Scan) (i k f : ℕ) where
       let p₅ = first (outOfOrder s k) 4 _ (p₄ .1) in
       let p₆ = first (not (fieldAllowed s i k f)) 5 _ (p₅ .1) in
       let p₇ = first (tooMany s k) 6 _ (p₆ .1) in
-      let p₈ = first (eqb k CLAIM && holdsNow s f) 7 _ (p₇ .1) in
+      let p₂₈ = first (eqb k CLAIM && tooManyUnits s f) 27 _ (p₇ .1) in
+      let p₈ = first (eqb k CLAIM && holdsNow s (deviceBits f)) 7 _ (p₂₈ .1) in
       let p₉ = first (eqb k RELEASE && not (holdsNow s f)) 8 _ (p₈ .1) in
       let p₁₀ = first ((eqb k TASK || eqb k END) && holdsSome s) 9 _ (p₉ .1) in
       record {
@@ -51,6 +53,7 @@ module _ (s : Scan) (i k f : ℕ) where
         order = p₅ .0;
         field = not-false _ (p₆ .0);
         room = p₇ .0;
+        units = p₂₈ .0;
         claimed = p₈ .0;
         released = p₉ .0;
         closed = p₁₀ .0;

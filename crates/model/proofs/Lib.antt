@@ -32,11 +32,14 @@ pub mod Permitted
 pub mod OneHold
 -- boxes, and the forbidden ones: exact, their sides, and the one that a claim runs into
 pub mod Boxes
+pub mod Choices
 pub mod ForbiddenExact
 pub mod Fits
 pub mod ForbiddenSides
 pub mod ForbiddenEach
-pub mod CrowdedBox
+pub mod FirstSet
+pub mod SetSizes
+pub mod BlockingBox
 pub mod ForbiddenBlocker
 pub mod TableOrder
 -- unsafe boxes: one box, sound, complete

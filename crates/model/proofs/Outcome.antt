@@ -57,7 +57,7 @@ module _ (words map : List ℕ) where
   room-number : (p : ℕ) → withRoom words map ≡ refused 14 p → ⊥
   room-number p e =
       by-cases (then-refused _ (read words) 14 p .0 e)
-      (λ q. by-cases (read-number present words 14 p q) (λ n. omega arith) (λ n. omega arith))
+      (λ q. by-cases (read-number present words 14 p q) (λ l. by-cases l (λ n. omega arith) (λ n. omega arith)) (λ n. omega arith))
       (λ r. by-cases (then-refused _ (mapFits (r .0) map) 14 p .0 (r .2)) (λ q. omega (arith, fits-number (r .0) map 14 p q)) (λ q. given-refused (q .2)))
 
   room-made : (s : Set) → withRoom words map ≡ given s → Mapped (read words) map (over (mapOf s) map)

@@ -7,14 +7,14 @@ use mathlib.Core.Bool.{true, false, not}
 use mathlib.Core.List.{List, [], _∷_, _++_, map, append-nil, append-assoc}
 use lib.ListN.{length, length-append, length-map}
 use borrow.Author.Tests.{lt-ltb, le-ltb, le-leb, lt-leb, eq-eqb, ne-eqb}
-use Rattle.model.specs.Set.{Action, claim, release, deviceOf, Task, Set, lengthsOf, claimed, size, balanced, GoodTask}
-use Rattle.model.specs.Layout.{word, DEVICE, TASK, CLAIM, RELEASE, END, actionWord, taskWords, body, withEnd, encode, Rules, WellFormedBy}
+use Rattle.model.specs.Set.{Action, claim, release, deviceOf, unitsTaken, Task, Set, lengthsOf, claimed, at, size, balanced, GoodTask}
+use Rattle.model.specs.Layout.{word, claimField, DEVICE, TASK, CLAIM, RELEASE, END, actionWord, taskWords, body, withEnd, encode, Rules, WellFormedBy}
 use Rattle.model.specs.Answer.{given, _then_}
-use Rattle.model.specs.Read.{lastTask, heldAfter, note, outOfOrder, fieldAllowed, tooMany, readFrom, readWords, firstUnclaimed, close, readBy}
+use Rattle.model.specs.Read.{lastTask, addAction, heldAfter, note, outOfOrder, fieldAllowed, tooMany, tooManyUnits, readFrom, readWords, firstUnclaimed, close, readBy}
 use Rattle.model.proofs.Bools.{any-none}
 use Rattle.model.proofs.Counts.{none-lowest}
-use Rattle.model.proofs.Held.{EachPlace, Declared, count-add, last-added, action-added, held-append, releases, balanced-first, balanced-next, balanced-close}
-use Rattle.model.proofs.Words.{setWith}
+use Rattle.model.proofs.Held.{EachPlace, Declared, WithinUnits, count-add, last-added, action-added, held-append, releases, balanced-first, balanced-next, balanced-close}
+use Rattle.model.proofs.Words.{setWith, device-field, extra-field}
 use Rattle.model.proofs.Faults.{scanOf, Passes, read-word}
 
 -- ---- each word's tests
@@ -27,6 +27,7 @@ pass-device cs c i low high room =
       order = refl;
       field = rw (le-leb 1 c low, le-leb c 8 high);
       room = lt-leb 16 (length cs) room;
+      units = refl;
       claimed = refl;
       released = refl;
       closed = refl;
@@ -45,6 +46,7 @@ pass-task cs ts i room none =
       order = refl;
       field = refl;
       room = lt-leb 8 (length ts) room;
+      units = refl;
       claimed = refl;
       released = refl;
       closed = any-none (length cs) _ none;
@@ -59,22 +61,26 @@ pass-end cs ts i some none =
       order = ne-eqb (length ts) 0 (λ z. omega arith);
       field = eq-eqb i i refl;
       room = refl;
+      units = refl;
       claimed = refl;
       released = refl;
       closed = any-none (length cs) _ none;
     }
 
 module _ (cs : List ℕ) (ts : List Task) (t : Task) (d i : ℕ) (declared : d < length cs) (room : length t < 255) where
-  pass-claim : heldAfter d false t ≡ false → Passes (scanOf cs (ts ++ (t ∷ []))) i CLAIM d
-  unfolding outOfOrder fieldAllowed tooMany
-  pass-claim free =
+  pass-claim : (e : ℕ) → d < 0x10000 → e < 0x100 → suc e ≤ at cs d → heldAfter d false t ≡ false
+      → Passes (scanOf cs (ts ++ (t ∷ []))) i CLAIM (claimField d e)
+  unfolding outOfOrder fieldAllowed tooMany tooManyUnits
+  pass-claim e small few units free =
+      let low = device-field d e small few in
       record {
         before-end = refl;
         kind = refl;
         order = ne-eqb (length (ts ++ (t ∷ []))) 0 (λ z. omega (arith, count-add ts t));
-        field = lt-ltb d (length cs) declared;
+        field = rw (lt-ltb (claimField d e) 0x1000000 (omega arith), low) (lt-ltb d (length cs) declared);
         room = rw (last-added ts t) (lt-leb 255 (length t) room);
-        claimed = rw (last-added ts t) free;
+        units = rw (low, extra-field d e small few) (le-ltb (at cs d) (suc e) units);
+        claimed = rw (last-added ts t, low) free;
         released = refl;
         closed = refl;
       }
@@ -88,6 +94,7 @@ module _ (cs : List ℕ) (ts : List Task) (t : Task) (d i : ℕ) (declared : d <
         order = ne-eqb (length (ts ++ (t ∷ []))) 0 (λ z. omega (arith, count-add ts t));
         field = lt-ltb d (length cs) declared;
         room = rw (last-added ts t) (lt-leb 255 (length t) room);
+        units = refl;
         claimed = refl;
         released = rw (last-added ts t, held);
         closed = refl;
@@ -105,33 +112,36 @@ devices cs (c ∷ ds) i rest ok n =
     ∙ devices (cs ++ (c ∷ [])) ds (suc i) rest (λ p k. ok (suc p) (omega arith)) more
     ∙ ap₂ (λ (l : List ℕ) (k : ℕ). readFrom (scanOf l []) k rest) (append-assoc cs (c ∷ []) ds) (omega arith)
 
-module _ (cs : List ℕ) (few : length cs ≤ 16) where
+module _ (cs : List ℕ) (few : length cs ≤ 16) (capacities : EachPlace (λ c. (1 ≤ c) × (c ≤ 8)) cs 0) where
   -- an action that its task may do now is added to it
   action : (ts : List Task) (t : Task) (a : Action) (i : ℕ) (ws : List ℕ)
-      → length t < 255 → deviceOf a < length cs → heldAfter (deviceOf a) false t ≡ releases a
+      → length t < 255 → deviceOf a < length cs → unitsTaken a ≤ at cs (deviceOf a) → heldAfter (deviceOf a) false t ≡ releases a
       → readFrom (scanOf cs (ts ++ (t ∷ []))) i (actionWord a ∷ ws) ≡ readFrom (scanOf cs (ts ++ ((t ++ (a ∷ [])) ∷ []))) (suc i) ws
-  unfolding note actionWord deviceOf releases
-  action ts t (claim d) i ws room declared free =
-      read-word (scanOf cs (ts ++ (t ∷ []))) i CLAIM d ws (omega arith) (pass-claim cs ts t d i declared room free)
-      ∙ ap (λ (l : List Task). readFrom (scanOf cs l) (suc i) ws) (action-added ts t (claim d))
-  action ts t (release d) i ws room declared held =
+  unfolding note actionWord deviceOf unitsTaken releases
+  action ts t (claim d e) i ws room declared units free =
+      let small : d < 0x10000 = omega arith in
+      let extra : e < 0x100 = omega (arith, capacities d declared .1) in
+      read-word (scanOf cs (ts ++ (t ∷ []))) i CLAIM (claimField d e) ws (omega arith) (pass-claim cs ts t d i declared room e small extra units free)
+      ∙ ap₂ (λ (c u : ℕ). readFrom (scanOf cs (addAction (ts ++ (t ∷ [])) (claim c u))) (suc i) ws) (device-field d e small extra) (extra-field d e small extra)
+      ∙ ap (λ (l : List Task). readFrom (scanOf cs l) (suc i) ws) (action-added ts t (claim d e))
+  action ts t (release d) i ws room declared units held =
       read-word (scanOf cs (ts ++ (t ∷ []))) i RELEASE d ws (omega arith) (pass-release cs ts t d i declared room held)
       ∙ ap (λ (l : List Task). readFrom (scanOf cs l) (suc i) ws) (action-added ts t (release d))
 
   actions : (ts : List Task) (t u : Task) (i : ℕ) (rest : List ℕ)
-      → length t + length u ≤ 255 → Declared (length cs) u → ((d : ℕ) → balanced d (heldAfter d false t) u ≡ true)
+      → length t + length u ≤ 255 → Declared (length cs) u → WithinUnits cs u → ((d : ℕ) → balanced d (heldAfter d false t) u ≡ true)
       → readFrom (scanOf cs (ts ++ (t ∷ []))) i (map actionWord u ++ rest) ≡ readFrom (scanOf cs (ts ++ ((t ++ u) ∷ []))) (i + length u) rest
-  actions ts t [] i rest l ok b = rw (append-nil t, add-zero i)
-  actions ts t (a ∷ u) i rest l ok b =
+  actions ts t [] i rest l ok within b = rw (append-nil t, add-zero i)
+  actions ts t (a ∷ u) i rest l ok within b =
       let e = deviceOf a in
       let v = t ++ (a ∷ []) in
       let may = balanced-first e (heldAfter e false t) a u (b e) (eq-eqb e e refl) in
       let more : length v + length u ≤ 255 = rw (length-append t (a ∷ [])) (omega arith) in
-      action ts t a i (map actionWord u ++ rest) (omega arith) (ok 0 (omega arith)) may
-      ∙ actions ts v u (suc i) rest more (λ p k. ok (suc p) (omega arith)) (λ d. rw (held-append d false t (a ∷ [])) (balanced-next d _ a u (b d)))
+      action ts t a i (map actionWord u ++ rest) (omega arith) (ok 0 (omega arith)) (within 0 (omega arith)) may
+      ∙ actions ts v u (suc i) rest more (λ p k. ok (suc p) (omega arith)) (λ p k. within (suc p) (omega arith)) (λ d. rw (held-append d false t (a ∷ [])) (balanced-next d _ a u (b d)))
       ∙ ap₂ (λ (w : Task) (k : ℕ). readFrom (scanOf cs (ts ++ (w ∷ []))) k rest) (append-assoc t (a ∷ []) u) (omega arith)
 
-  tasks : (ts us : List Task) (i : ℕ) (rest : List ℕ) → length ts + length us ≤ 8 → Closed (length cs) ts → EachPlace (GoodTask (length cs)) us []
+  tasks : (ts us : List Task) (i : ℕ) (rest : List ℕ) → length ts + length us ≤ 8 → Closed (length cs) ts → EachPlace (GoodTask cs) us []
       → (readFrom (scanOf cs ts) i (taskWords us ++ rest) ≡ readFrom (scanOf cs (ts ++ us)) (i + length (taskWords us)) rest) × Closed (length cs) (ts ++ us)
   unfolding note taskWords heldAfter
   tasks ts [] i rest m none ok = (rw (append-nil ts, add-zero i), rw (append-nil ts) none)
@@ -143,7 +153,7 @@ module _ (cs : List ℕ) (few : length cs ≤ 16) where
       let later = tasks (ts ++ (t ∷ [])) us (suc i + length t) rest more closed (λ p k. ok (suc p) (omega arith)) in (
         ap (λ (l : List ℕ). readFrom (scanOf cs ts) i (word TASK 0 ∷ l)) (append-assoc (map actionWord t) (taskWords us) rest)
             ∙ read-word (scanOf cs ts) i TASK 0 (map actionWord t ++ ws) (omega arith) (pass-task cs ts i (omega arith) none)
-            ∙ actions ts [] t (suc i) ws (omega (arith, good .actions)) (good .declared) (good .balance)
+            ∙ actions ts [] t (suc i) ws (omega (arith, good .actions)) (good .declared) (good .units) (good .balance)
             ∙ later .0
             ∙ ap₂ (λ (l : List Task) (k : ℕ). readFrom (scanOf cs l) k rest) (append-assoc ts (t ∷ []) us) (simp (length-append, length-map) (omega arith)),
         rw (append-assoc ts (t ∷ []) us) at (later .1),
@@ -163,13 +173,13 @@ from-nothing s w =
     let end = word END n ∷ [] in
     let size : length cs + length (taskWords ts) ≡ n = simp (length-append, length-map) in
     let words : suc n ≤ 4096 = omega (arith, w .words, length-append (body s) end) in
-    let read-tasks = tasks cs (w .devices) [] ts (length cs) end (omega (arith, w .tasks)) (λ d h. refl) (w .each-task) in
+    let read-tasks = tasks cs (w .devices) (w .capacities) [] ts (length cs) end (omega (arith, w .tasks)) (λ d h. refl) (w .each-task) in
     ap (readFrom (scanOf [] []) 0) (append-assoc (map (word DEVICE) cs) (taskWords ts) end)
     ∙ devices [] cs 0 (taskWords ts ++ end) (w .capacities) (omega (arith, w .devices))
     ∙ ap (λ (k : ℕ). readFrom (scanOf cs []) k (taskWords ts ++ end)) (zero-add (length cs))
     ∙ read-tasks .0
     ∙ ap (λ (k : ℕ). readFrom (scanOf cs ts) k end) size
-    ∙ ends cs (w .devices) ts n (w .some-task) words (read-tasks .1)
+    ∙ ends cs (w .devices) (w .capacities) ts n (w .some-task) words (read-tasks .1)
 
 words-complete : {rules : Rules} (s : Set) → WellFormedBy rules s → readWords (encode s) ≡ given s
 unfolding readWords withEnd

@@ -9,15 +9,15 @@ use lib.ListN.{length, length-append}
 use lib.Seq.{append-snoc}
 use lib.Dec.{eqb, ltb, leb}
 use borrow.Author.Tests.{ltb-true, ltb-false, leb-true, leb-false, eqb-true, eqb-false, not-false}
-use Rattle.model.specs.Set.{Action, claim, release, deviceOf, Task, Set, lengthsOf, claimed, size, balanced, GoodTask}
-use Rattle.model.specs.Layout.{word, DEVICE, TASK, CLAIM, RELEASE, END, actionWord, taskWords, body, withEnd, encode, Rules, present, WellFormedBy}
+use Rattle.model.specs.Set.{Action, claim, release, deviceOf, unitsTaken, Task, Set, lengthsOf, claimed, at, size, balanced, GoodTask}
+use Rattle.model.specs.Layout.{word, claimField, deviceBits, extraBits, DEVICE, TASK, CLAIM, RELEASE, END, actionWord, taskWords, body, withEnd, encode, Rules, present, WellFormedBy}
 use Rattle.model.specs.Answer.{given}
-use Rattle.model.specs.Read.{lastTask, addAction, heldAfter, note, outOfOrder, fieldAllowed, tooMany, holdsSome, readFrom, readWords, firstUnclaimed, close, readBy}
+use Rattle.model.specs.Read.{lastTask, addAction, heldAfter, note, outOfOrder, fieldAllowed, tooMany, tooManyUnits, holdsSome, readFrom, readWords, firstUnclaimed, close, readBy}
 use Rattle.model.proofs.Bools.{by-bool, true-not-false, and-true, any-false}
 use Rattle.model.proofs.Answers.{then-given}
 use Rattle.model.proofs.Counts.{below-lowest}
-use Rattle.model.proofs.Held.{EachPlace, place-added, Declared, count-add, last-added, action-added, held-append, held-unnamed, releases, balanced-on}
-use Rattle.model.proofs.Words.{setWith, body-device, body-task, body-action}
+use Rattle.model.proofs.Held.{EachPlace, place-added, Declared, WithinUnits, count-add, last-added, action-added, held-append, held-unnamed, releases, balanced-on}
+use Rattle.model.proofs.Words.{setWith, claim-parts, body-device, body-task, body-action}
 use Rattle.model.proofs.Faults.{scanOf, WordRead, not-refused, word-reads, by-kind}
 use Rattle.model.proofs.ReadAccepts.{read-complete}
 
@@ -26,7 +26,7 @@ record Sound (cs : List ℕ) (ts : List Task) : Type 0 where
   capacities : EachPlace (λ c. (1 ≤ c) × (c ≤ 8)) cs 0
   devices : length cs ≤ 16
   tasks : length ts ≤ 8
-  each-task : EachPlace (GoodTask (length cs)) ts []
+  each-task : EachPlace (GoodTask cs) ts []
 
 -- so are the actions t of the open task: it may go on as what it holds allows
 record OpenScan (cs : List ℕ) (ts : List Task) (t : Task) : Type 0 where
@@ -34,6 +34,7 @@ record OpenScan (cs : List ℕ) (ts : List Task) (t : Task) : Type 0 where
   count : length ts < 8
   actions : length t ≤ 255
   declared : Declared (length cs) t
+  units : WithinUnits cs t
   balance : (d : ℕ) (u : Task) → balanced d false (t ++ u) ≡ balanced d (heldAfter d false t) u
 
 module _ (cs : List ℕ) (ts : List Task) (t : Task) (o : OpenScan cs ts t) where
@@ -45,23 +46,24 @@ module _ (cs : List ℕ) (ts : List Task) (t : Task) (o : OpenScan cs ts t) wher
       let free : (d : ℕ) → heldAfter d false t ≡ false = λ d.
       by-bool (ltb d n) (λ k. rw (last-added ts t) at (any-false n _ none d (ltb-true d n k)))
       (λ k. held-unnamed n d false t (ltb-false d n k) (o .declared)) in
-      let good : GoodTask n t =
-      record { actions = o .actions; declared = o .declared; balance = λ d. rw (append-nil t, free d) at (o .balance d []) } in
+      let good : GoodTask cs t =
+      record { actions = o .actions; declared = o .declared; units = o .units; balance = λ d. rw (append-nil t, free d) at (o .balance d []) } in
       record {
         capacities = o .before .capacities;
         devices = o .before .devices;
         tasks = omega (arith, count-add ts t, o .count);
-        each-task = place-added (GoodTask n) ts t [] (o .before .each-task) good;
+        each-task = place-added (GoodTask cs) ts t [] (o .before .each-task) good;
       }
 
   -- an action that it may do now is added to it
-  acts : (a : Action) → length t < 255 → deviceOf a < length cs → heldAfter (deviceOf a) false t ≡ releases a → OpenScan cs ts (t ++ (a ∷ []))
-  acts a room declared may =
+  acts : (a : Action) → length t < 255 → deviceOf a < length cs → unitsTaken a ≤ at cs (deviceOf a) → heldAfter (deviceOf a) false t ≡ releases a → OpenScan cs ts (t ++ (a ∷ []))
+  acts a room declared units may =
       record {
         before = o .before;
         count = o .count;
         actions = rw (length-append t (a ∷ [])) (omega arith);
-        declared = place-added (λ b. deviceOf b < length cs) t a (claim 0) (o .declared) declared;
+        declared = place-added (λ b. deviceOf b < length cs) t a (claim 0 0) (o .declared) declared;
+        units = place-added (λ b. unitsTaken b ≤ at cs (deviceOf b)) t a (claim 0 0) (o .units) units;
         balance = λ d u.
             ap (balanced d false) (append-assoc t (a ∷ []) u)
             ∙ o .balance d (a ∷ u)
@@ -71,7 +73,7 @@ module _ (cs : List ℕ) (ts : List Task) (t : Task) (o : OpenScan cs ts t) wher
 
 opens : (cs : List ℕ) (ts : List Task) → Sound cs ts → length ts < 8 → OpenScan cs ts []
 unfolding heldAfter
-opens cs ts o room = record { before = o; count = room; actions = omega arith; declared = λ p k. absurd (omega arith); balance = λ d u. refl }
+opens cs ts o room = record { before = o; count = room; actions = omega arith; declared = λ p k. absurd (omega arith); units = λ p k. absurd (omega arith); balance = λ d u. refl }
 
 -- after END there is no word
 after-end : (s r : Set) (i : ℕ) (ws : List ℕ) → readFrom (record { set = s; ended = true }) i ws ≡ given r → (ws ≡ []) × (s ≡ r)
@@ -162,23 +164,28 @@ module _ (all : List ℕ) (short : length all ≤ 4096) (r : Set) where
     Acted a = OpenScan cs ts (t ++ (a ∷ [])) × Takes cs (ts ++ ((t ++ (a ∷ [])) ∷ [])) ws
 
     by-action : (a : Action) → w ≡ actionWord a → leb 255 (length (lastTask (ts ++ (t ∷ [])))) ≡ false → ltb (deviceOf a) (length cs) ≡ true
-        → heldAfter (deviceOf a) false (lastTask (ts ++ (t ∷ []))) ≡ releases a
+        → unitsTaken a ≤ at cs (deviceOf a) → heldAfter (deviceOf a) false (lastTask (ts ++ (t ∷ []))) ≡ releases a
         → readFrom (scanOf cs (addAction (ts ++ (t ∷ [])) a)) (suc (length (body (setWith cs (ts ++ (t ∷ [])))))) ws ≡ given r → Acted a
-    by-action a made room declared may next =
+    by-action a made room declared units may next =
         let last = last-added ts t in
         let us = ts ++ (t ∷ []) in
         let vs = ts ++ ((t ++ (a ∷ [])) ∷ []) in (
-          acts cs ts t o a (leb-false 255 (length t) (rw last at room)) (ltb-true _ _ declared) (rw last at may),
+          acts cs ts t o a (leb-false 255 (length t) (rw last at room)) (ltb-true _ _ declared) units (rw last at may),
           takes-on cs us cs vs w ws e (rw made (body-action cs ts t a)) (rw (action-added ts t a) at next),
         )
 
-    by-claim : (f : ℕ) → ReadHere cs (ts ++ (t ∷ [])) w ws CLAIM f → Acted (claim f)
-    unfolding note fieldAllowed tooMany actionWord deviceOf releases
-    by-claim f x = by-action (claim f) (x .made) (x .passes .room) (x .passes .field) (x .passes .claimed) (x .after)
+    by-claim : (f : ℕ) → ReadHere cs (ts ++ (t ∷ [])) w ws CLAIM f → Acted (claim (deviceBits f) (extraBits f))
+    unfolding note fieldAllowed tooMany tooManyUnits actionWord deviceOf unitsTaken releases
+    by-claim f x =
+        let d = deviceBits f in
+        let e = extraBits f in
+        let fits = and-true (ltb f 0x1000000) (ltb d (length cs)) (x .passes .field) in
+        let made : w ≡ word CLAIM (claimField d e) = x .made ∙ ap (word CLAIM) (claim-parts f (ltb-true f 0x1000000 (fits .0))) in
+        by-action (claim d e) made (x .passes .room) (fits .1) (ltb-false (at cs d) (suc e) (x .passes .units)) (x .passes .claimed) (x .after)
 
     by-release : (f : ℕ) → ReadHere cs (ts ++ (t ∷ [])) w ws RELEASE f → Acted (release f)
-    unfolding note fieldAllowed tooMany actionWord deviceOf releases
-    by-release f x = by-action (release f) (x .made) (x .passes .room) (x .passes .field) (not-false _ (x .passes .released)) (x .after)
+    unfolding note fieldAllowed tooMany actionWord deviceOf unitsTaken releases
+    by-release f x = by-action (release f) (x .made) (x .passes .room) (x .passes .field) (omega arith) (not-false _ (x .passes .released)) (x .after)
 
   -- ---- the words left, with a task open, and before the first TASK
   in-task : (ws : List ℕ) (cs : List ℕ) (ts : List Task) (t : Task) → OpenScan cs ts t → Takes cs (ts ++ (t ∷ [])) ws → Found
@@ -189,7 +196,7 @@ module _ (all : List ℕ) (short : length all ≤ 4096) (r : Set) where
       by-kind (scanOf cs us) (length (body (setWith cs us))) w ws r (e .taken)
       (λ f x. absurd (omega (arith, ltb-false 0 (length us) (x .passes .order), count-add ts t)))
       (λ f x. let n = by-task cs us w ws f (closes cs ts t o (x .passes .closed)) e x in in-task ws cs us [] (n .0) (n .1))
-      (λ f x. let n = by-claim cs ts t w ws o e f x in in-task ws cs ts (t ++ (claim f ∷ [])) (n .0) (n .1))
+      (λ f x. let n = by-claim cs ts t w ws o e f x in in-task ws cs ts (t ++ (claim (deviceBits f) (extraBits f) ∷ [])) (n .0) (n .1))
       (λ f x. let n = by-release cs ts t w ws o e f x in in-task ws cs ts (t ++ (release f ∷ [])) (n .0) (n .1))
       (λ f x. by-end cs us w ws f (closes cs ts t o (x .passes .closed)) e x)
 

@@ -1,7 +1,7 @@
--- A reading's refusals are the numbers 1 to 12, and 24 by the present rules, at places up to 4,096.
+-- A reading's refusals are the numbers 1 to 12 and 28, and 24 by the present rules, at places up to 4,096.
 use Prim.Native.Nat.{ℕ, suc, _+_, _<_, _≤_}
 use native.Mathlib.Omega.{arith}
-use mathlib.Core.Path.{_≡_, sym}
+use mathlib.Core.Path.{_≡_, refl, sym}
 use mathlib.Core.Logic.{_⊎_, inl, inr}
 use mathlib.Core.Bool.{Bool, true, false, not, cond, _&&_, _||_}
 use mathlib.Core.List.{List, [], _∷_}
@@ -9,44 +9,57 @@ use lib.ListN.{length, length-append, length-map}
 use lib.Dec.{eqb, ltb, leb}
 use borrow.Author.Tests.{ltb-true, ltb-false}
 use Rattle.model.specs.Set.{Set, lengthsOf, claimed, size}
-use Rattle.model.specs.Layout.{kindOf, fieldOf, TASK, CLAIM, RELEASE, END, body, withEnd, encode, Rules, present}
+use Rattle.model.specs.Layout.{kindOf, fieldOf, deviceBits, TASK, CLAIM, RELEASE, END, body, withEnd, encode, Rules, present}
 use Rattle.model.specs.Answer.{given, refused}
-use Rattle.model.specs.Read.{Scan, nothingRead, note, holdsNow, holdsSome, outOfOrder, fieldAllowed, tooMany, fault, readFrom, readWords, firstUnclaimed, close, readBy}
+use Rattle.model.specs.Read.{Scan, nothingRead, note, holdsNow, holdsSome, outOfOrder, fieldAllowed, tooMany, tooManyUnits, fault, readFrom, readWords, firstUnclaimed, close, readBy}
 use Rattle.model.proofs.Bools.{by-bool, by-cases, and-true}
 use Rattle.model.proofs.Counts.{lowest-le}
 use Rattle.model.proofs.Answers.{given-refused, refused-given, refused-number, refused-place, then-refused}
 use Rattle.model.proofs.ReadExact.{words-sound}
 
-cond-le : (b : Bool) (x y m : ℕ) → x ≤ m → y ≤ m → cond b x y ≤ m
-cond-le true x y m h k = h
-cond-le false x y m h k = k
+-- the numbers of words' refusals
+abbrev pub OfWords : ℕ → Type 0
+OfWords n = ((1 ≤ n) × (n ≤ 12)) ⊎ (n ≡ 28)
 
-fault-small : (s : Scan) (i k f : ℕ) → fault s i k f ≤ 12
+between : {n m : ℕ} → m ≡ n → 1 ≤ m → m ≤ 12 → OfWords n
+between e l h = inl (omega arith, omega arith)
+
+-- no fault, or one with such a number
+abbrev Small : ℕ → Type 0
+Small n = (n ≡ 0) ⊎ OfWords n
+
+small : (b : Bool) (x y : ℕ) → 1 ≤ x → x ≤ 12 → Small y → Small (cond b x y)
+small true x y l h k = inr (inl (l, h))
+small false x y l h k = k
+
+units-small : (b : Bool) (y : ℕ) → Small y → Small (cond b 28 y)
+units-small true y k = inr (inr refl)
+units-small false y k = k
+
+fault-small : (s : Scan) (i k f : ℕ) → Small (fault s i k f)
 unfolding fault
 fault-small s i k f =
-    cond-le (s .ended) 3 _ 12 (omega arith)
-    (cond-le (not (leb 1 k && leb k 5)) 4 _ 12 (omega arith)
-    (cond-le (outOfOrder s k) 5 _ 12 (omega arith)
-    (cond-le (not (fieldAllowed s i k f)) 6 _ 12 (omega arith)
-    (cond-le (tooMany s k) 7 _ 12 (omega arith)
-    (cond-le (eqb k CLAIM && holdsNow s f) 8 _ 12 (omega arith)
-    (cond-le (eqb k RELEASE && not (holdsNow s f)) 9 _ 12 (omega arith)
-    (cond-le ((eqb k TASK || eqb k END) && holdsSome s) 10 0 12 (omega arith) (omega arith))))))))
+    small (s .ended) 3 _ (omega arith) (omega arith)
+    (small (not (leb 1 k && leb k 5)) 4 _ (omega arith) (omega arith)
+    (small (outOfOrder s k) 5 _ (omega arith) (omega arith)
+    (small (not (fieldAllowed s i k f)) 6 _ (omega arith) (omega arith)
+    (small (tooMany s k) 7 _ (omega arith) (omega arith)
+    (units-small (eqb k CLAIM && tooManyUnits s f) _
+    (small (eqb k CLAIM && holdsNow s (deviceBits f)) 8 _ (omega arith) (omega arith)
+    (small (eqb k RELEASE && not (holdsNow s f)) 9 _ (omega arith) (omega arith)
+    (small ((eqb k TASK || eqb k END) && holdsSome s) 10 0 (omega arith) (omega arith) (inl refl)))))))))
 
-between : {n m : ℕ} → m ≡ n → 1 ≤ m → m ≤ 12 → (1 ≤ n) × (n ≤ 12)
-between e l h = (omega arith, omega arith)
-
-from-listed : (s : Scan) (i : ℕ) (ws : List ℕ) (n p : ℕ) → readFrom s i ws ≡ refused n p → (1 ≤ n) × (n ≤ 12)
+from-listed : (s : Scan) (i : ℕ) (ws : List ℕ) (n p : ℕ) → readFrom s i ws ≡ refused n p → OfWords n
 unfolding readFrom
 from-listed s i [] n p e =
     by-bool (s .ended) (λ d. given-refused (rw d at e)) (λ d. between (refused-number (rw d at e)) (omega arith) (omega arith))
 from-listed s i (w ∷ ws) n p e =
     let f = fault s i (kindOf w) (fieldOf w) in
     by-bool (ltb 0 f)
-    (λ b. between (refused-number (rw b at e)) (ltb-true 0 f b) (fault-small s i (kindOf w) (fieldOf w)))
+    (λ b. rw (refused-number (rw b at e)) at (by-cases (fault-small s i (kindOf w) (fieldOf w)) (λ z. absurd (omega (arith, ltb-true 0 f b))) (λ l. l)))
     (λ b. from-listed (note s (kindOf w) (fieldOf w)) (suc i) ws n p (rw b at e))
 
-pub words-listed : (ws : List ℕ) (n p : ℕ) → readWords ws ≡ refused n p → (1 ≤ n) × (n ≤ 12)
+pub words-listed : (ws : List ℕ) (n p : ℕ) → readWords ws ≡ refused n p → OfWords n
 unfolding readWords
 words-listed ws n p e =
     by-bool (eqb (length ws) 0)
@@ -57,7 +70,7 @@ words-listed ws n p e =
 
 -- the numbers of a set's refusals by these rules
 abbrev pub Listed : Rules → ℕ → Type 0
-Listed rules n = ((1 ≤ n) × (n ≤ 12)) ⊎ ((rules ≡ present) × (n ≡ 24))
+Listed rules n = OfWords n ⊎ ((rules ≡ present) × (n ≡ 24))
 
 close-listed : (rules : Rules) (k : ℕ) (s : Set) (n p : ℕ) → close rules k s ≡ refused n p → Listed rules n
 unfolding close
@@ -128,4 +141,4 @@ read-place rules ws n p e =
 -- both are small numbers
 pub read-small : (rules : Rules) (ws : List ℕ) (n p : ℕ) → readBy rules ws ≡ refused n p → (n < 100) × (p < 100000)
 read-small rules ws n p e =
-    (by-cases (read-number rules ws n p e) (λ l. omega arith) (λ l. omega arith), omega (arith, read-place rules ws n p e))
+    (by-cases (read-number rules ws n p e) (λ l. by-cases l (λ h. omega arith) (λ h. omega arith)) (λ l. omega arith), omega (arith, read-place rules ws n p e))

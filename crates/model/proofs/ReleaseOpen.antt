@@ -2,22 +2,20 @@
 use Prim.Native.Nat.{ℕ, zero, suc, _<_, _≤_}
 use native.Mathlib.Omega.{arith}
 use mathlib.Core.Path.{_≡_, refl, sym, ap, _∙_}
-use mathlib.Core.Bool.{true, false, not, _&&_}
+use mathlib.Core.Bool.{true, false, cond}
 use mathlib.Core.List.{List, [], _∷_, _++_}
 use lib.ListN.{length, getD, take, length-map, List·getD-map}
 use lib.Seq.{take-suc}
 use lib.Dec.{eqb}
 use borrow.Author.Tests.{ltb-true, eqb-true, eqb-false}
-use Rattle.model.specs.Set.{claim, release, Task, Set, lengthsOf, taskAt, actionAt, at}
+use Rattle.model.specs.Set.{claim, release, Task, Set, lengthsOf, taskAt, actionAt, at, balanced}
 use Rattle.model.specs.Layout.{Rules, WellFormedBy}
-use Rattle.model.specs.Read.{heldAfter}
 use Rattle.model.specs.State.{State, InGrid, next, unfinished}
-use Rattle.model.specs.Hold.{holds, holding, unitsAt, held, permitted}
+use Rattle.model.specs.Hold.{holds, unitsAt, held, permitted}
 use Rattle.model.specs.Run.{CanEnd, is-end, step, Open}
 use Rattle.model.proofs.Bools.{by-bool, and-true}
 use Rattle.model.proofs.States.{unfinished-task, end-finished, next-grid, at-next-other}
-use Rattle.model.proofs.Held.{held-append}
-use Rattle.model.proofs.HoldWalk.{holds-walk}
+use Rattle.model.proofs.HoldWalk.{unitsAfter, units-append, holds-walk}
 use Rattle.model.proofs.Permitted.{permitted-intro, permitted-fits}
 
 -- steps of two tasks may be taken in either order
@@ -38,17 +36,15 @@ held-step e (task ∷ tasks) (p ∷ x) zero h = omega arith
 held-step e (task ∷ tasks) (p ∷ x) (suc t) h = omega (arith, held-step e tasks x t h)
 
 -- a release takes none
-release-units : (e d p : ℕ) (task : Task) → ((c : ℕ) → holding (holds c task) p ≡ heldAfter c false (take p task))
-    → ((c : ℕ) → holding (holds c task) (suc p) ≡ heldAfter c false (take (suc p) task)) → p < length task → getD task p (claim 0) ≡ release d
+release-units : (e d p : ℕ) (task : Task) → balanced e false task ≡ true → p < length task → getD task p (claim 0 0) ≡ release d
     → unitsAt (holds e task) (suc p) ≤ unitsAt (holds e task) p
-unfolding heldAfter
-release-units e d p task here after h a =
-    let one : take (suc p) task ≡ take p task ++ (release d ∷ []) = take-suc task p (claim 0) h ∙ ap (λ c. take p task ++ (c ∷ [])) a in
-    let walked : holding (holds e task) (suc p) ≡ (not (eqb d e) && holding (holds e task) p) =
-    after e ∙ ap (heldAfter e false) one ∙ held-append e false (take p task) (release d ∷ []) ∙ ap (λ b. not (eqb d e) && b) (sym (here e)) in
-    by-bool (holding (holds e task) p)
-    (λ b. by-bool (eqb d e) (λ q. rw (walked, b, q) (omega arith)) (λ q. rw (walked, b, q) (omega arith)))
-    (λ b. by-bool (eqb d e) (λ q. rw (walked, b, q) (omega arith)) (λ q. rw (walked, b, q) (omega arith)))
+unfolding unitsAfter
+release-units e d p task b h a =
+    let one : take (suc p) task ≡ take p task ++ (release d ∷ []) = take-suc task p (claim 0 0) h ∙ ap (λ c. take p task ++ (c ∷ [])) a in
+    let here = holds-walk e p task b (omega arith) in
+    let walked : unitsAt (holds e task) (suc p) ≡ cond (eqb d e) 0 (unitsAt (holds e task) p) =
+    holds-walk e (suc p) task b h ∙ ap (unitsAfter e 0) one ∙ units-append e 0 (take p task) (release d ∷ []) ∙ ap (λ n. cond (eqb d e) 0 n) (sym here) in
+    by-bool (eqb d e) (λ q. rw (walked, q) (omega arith)) (λ q. rw (walked, q) (omega arith))
 
 module _ {rules : Rules} (s : Set) (w : WellFormedBy rules s) where
   abbrev ls : List ℕ
@@ -62,8 +58,7 @@ module _ {rules : Rules} (s : Set) (w : WellFormedBy rules s) where
         let h = w .each-task t (omega (arith, length-map (s .tasks) length, unfinished-task ls x t u)) .balance in
         let l : at x t < length task = omega (arith, ltb-true (at x t) (at ls t) u, List·getD-map length (s .tasks) t []) in
         permitted-intro s (next x t) λ e k.
-        let units = release-units e d (at x t) task
-        (λ c. holds-walk c (at x t) task (h c) (omega arith)) (λ c. holds-walk c (suc (at x t)) task (h c) l) l a in
+        let units = release-units e d (at x t) task (h e) l a in
         omega (arith, held-step e (s .tasks) x t units, permitted-fits s x p e k)
 
     -- and from one that can end to one that can

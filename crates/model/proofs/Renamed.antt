@@ -1,7 +1,7 @@
 -- Tasks with other numbers for the devices: what device e is in them, where it was device d before. For the cleaner, and for every call that makes a set out of
 -- sets.
 use Prim.Native.Nat.{ℕ, suc}
-use mathlib.Core.Path.{_≡_, refl}
+use mathlib.Core.Path.{_≡_, refl, ap}
 use mathlib.Core.Bool.{Bool, true, false}
 use mathlib.Core.List.{List, [], _∷_, map}
 use lib.ListN.{length, length-map}
@@ -9,7 +9,7 @@ use lib.Dec.{eqb}
 use Rattle.model.specs.Set.{Action, claim, release, deviceOf, Task, lengths, claims, claimed, balanced}
 use Rattle.model.specs.State.{State}
 use Rattle.model.specs.Hold.{heldTo, holdsFrom, held}
-use Rattle.model.specs.Forbidden.{TaskSet, choose, sidesOf, boxesOf, boxesOfAll, deviceBoxes}
+use Rattle.model.specs.Forbidden.{TaskSet, taskSets, sidesOf, choicesOf, choicesOfAll, boxesOf, deviceBoxes}
 use Rattle.model.specs.Clean.{renamed, renamedTasks}
 use Rattle.model.proofs.Each.{Each}
 
@@ -23,9 +23,9 @@ module _ (f g : ℕ → ℕ) where
   abbrev Agrees : Action → Type 0
   Agrees a = f (deviceOf a) ≡ g (deviceOf a)
 
-  action-same : (a : Action) → Agrees a → renamed f a ≡ renamed g a
+  pub action-same : (a : Action) → Agrees a → renamed f a ≡ renamed g a
   unfolding renamed deviceOf
-  action-same (claim d) e = rw e
+  action-same (claim d u) e = rw e
   action-same (release d) e = rw e
 
   task-same : (task : Task) → Each Agrees task → map (renamed f) task ≡ map (renamed g) task
@@ -39,7 +39,7 @@ module _ (f g : ℕ → ℕ) where
 -- the devices' own numbers
 own-action : (a : Action) → renamed (λ d. d) a ≡ a
 unfolding renamed
-own-action (claim d) = refl
+own-action (claim d u) = refl
 own-action (release d) = refl
 
 own-task : (task : Task) → map (renamed (λ d. d)) task ≡ task
@@ -59,25 +59,25 @@ module _ (f : ℕ → ℕ) (d e : ℕ) where
   pub balanced-renamed : (h : Bool) (task : Task) → Each (Follows f d e) task → balanced e h (map (renamed f) task) ≡ balanced d h task
   unfolding balanced renamed deviceOf
   balanced-renamed h [] s = refl
-  balanced-renamed h (claim c ∷ rest) s = rw (s .0, balanced-renamed true rest (s .1), balanced-renamed h rest (s .1))
+  balanced-renamed h (claim c u ∷ rest) s = rw (s .0, balanced-renamed true rest (s .1), balanced-renamed h rest (s .1))
   balanced-renamed h (release c ∷ rest) s = rw (s .0, balanced-renamed false rest (s .1), balanced-renamed h rest (s .1))
 
   pub claims-renamed : (task : Task) → Each (Follows f d e) task → claims e (map (renamed f) task) ≡ claims d task
   unfolding claims renamed deviceOf
   claims-renamed [] s = refl
-  claims-renamed (claim c ∷ rest) s = rw (s .0, claims-renamed rest (s .1))
+  claims-renamed (claim c u ∷ rest) s = rw (s .0, claims-renamed rest (s .1))
   claims-renamed (release c ∷ rest) s = claims-renamed rest (s .1)
 
   held-to-renamed : (p : ℕ) (task : Task) → Each (Follows f d e) task → heldTo e p (map (renamed f) task) ≡ heldTo d p task
   unfolding heldTo renamed deviceOf
   held-to-renamed p [] s = refl
-  held-to-renamed p (claim c ∷ rest) s = held-to-renamed (suc p) rest (s .1)
+  held-to-renamed p (claim c u ∷ rest) s = held-to-renamed (suc p) rest (s .1)
   held-to-renamed p (release c ∷ rest) s = rw (s .0, held-to-renamed (suc p) rest (s .1))
 
   pub holds-renamed : (p : ℕ) (task : Task) → Each (Follows f d e) task → holdsFrom e p (map (renamed f) task) ≡ holdsFrom d p task
   unfolding holdsFrom renamed deviceOf
   holds-renamed p [] s = refl
-  holds-renamed p (claim c ∷ rest) s = rw (s .0, held-to-renamed (suc p) rest (s .1), holds-renamed (suc p) rest (s .1))
+  holds-renamed p (claim c u ∷ rest) s = rw (s .0, held-to-renamed (suc p) rest (s .1), holds-renamed (suc p) rest (s .1))
   holds-renamed p (release c ∷ rest) s = holds-renamed (suc p) rest (s .1)
 
   -- ---- in all of them
@@ -97,21 +97,21 @@ module _ (f : ℕ → ℕ) (d e : ℕ) where
   sides-renamed true task s = holds-renamed 0 task s
   sides-renamed false task s = rw (length-map {B = Action} task (renamed f))
 
-  boxes-renamed : (c : TaskSet) (tasks : List Task) → Each (Each (Follows f d e)) tasks → boxesOf e c (renamedTasks f tasks) ≡ boxesOf d c tasks
-  unfolding boxesOf
-  boxes-renamed [] [] s = refl
-  boxes-renamed [] (task ∷ tasks) s = refl
-  boxes-renamed (b ∷ c) [] s = refl
-  boxes-renamed (b ∷ c) (task ∷ tasks) s = rw (sides-renamed b task (s .0), boxes-renamed c tasks (s .1))
+  choices-renamed : (c : TaskSet) (tasks : List Task) → Each (Each (Follows f d e)) tasks → choicesOf e c (renamedTasks f tasks) ≡ choicesOf d c tasks
+  unfolding choicesOf
+  choices-renamed [] [] s = refl
+  choices-renamed [] (task ∷ tasks) s = refl
+  choices-renamed (b ∷ c) [] s = refl
+  choices-renamed (b ∷ c) (task ∷ tasks) s = rw (sides-renamed b task (s .0), choices-renamed c tasks (s .1))
 
-  all-renamed : (cs : List TaskSet) (tasks : List Task) → Each (Each (Follows f d e)) tasks → boxesOfAll e cs (renamedTasks f tasks) ≡ boxesOfAll d cs tasks
-  unfolding boxesOfAll
+  all-renamed : (cs : List TaskSet) (tasks : List Task) → Each (Each (Follows f d e)) tasks → choicesOfAll e cs (renamedTasks f tasks) ≡ choicesOfAll d cs tasks
+  unfolding choicesOfAll
   all-renamed [] tasks s = refl
-  all-renamed (c ∷ cs) tasks s = rw (boxes-renamed c tasks s, all-renamed cs tasks s)
+  all-renamed (c ∷ cs) tasks s = rw (choices-renamed c tasks s, all-renamed cs tasks s)
 
   -- the forbidden boxes of the device
   pub device-renamed : (capacity : ℕ) (tasks : List Task) → Each (Each (Follows f d e)) tasks
       → deviceBoxes e capacity (renamedTasks f tasks) ≡ deviceBoxes d capacity tasks
   unfolding deviceBoxes
   device-renamed capacity tasks s =
-      rw (length-map {B = Task} tasks (map (renamed f))) (all-renamed (choose (suc capacity) (length tasks)) tasks s)
+      rw (length-map {B = Task} tasks (map (renamed f))) (ap (boxesOf capacity) (all-renamed (taskSets (length tasks)) tasks s))

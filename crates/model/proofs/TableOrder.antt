@@ -1,18 +1,17 @@
--- The table of task sets: it has 255 bytes, and the sets of one size among the first tasks stand in it as `choose` lists them.
-use Prim.Native.Nat.{ℕ, suc, _<_}
+-- The table of task sets: it has 255 bytes, and the sets of the first tasks stand in it as `taskSets` lists them.
+use Prim.Native.Nat.{ℕ, _<_}
 use mathlib.Core.Path.{_≡_, refl, ap₂}
 use mathlib.Core.Bool.{Bool, true, false, not, _&&_, Bool·beq}
 use mathlib.Core.List.{List, [], _∷_}
 use lib.ListN.{length}
-use lib.Count.{ones}
 use borrow.Author.Tests.{not-false}
 use Rattle.model.specs.Below.{any}
-use Rattle.model.specs.Forbidden.{choose}
-use Rattle.model.specs.TaskTable.{maskOf, masksFrom, table, setOfMask, setsIn}
+use Rattle.model.specs.Forbidden.{choose, setsFrom, taskSets}
+use Rattle.model.specs.TaskTable.{maskOf, table, setOfMask, setsIn}
 use Rattle.model.proofs.Bools.{true-not-false, and-true, any-false}
 
 pub table-length : length table ≡ 255
-unfolding table masksFrom maskOf choose
+unfolding table maskOf setsFrom choose
 table-length = refl
 
 -- an equality test for lists, from one for their elements
@@ -37,16 +36,15 @@ beq-equal true false e = cc
 beq-equal false true e = cc
 beq-equal false false e = refl
 
-agrees : ℕ → ℕ → Bool
-agrees k n = same (same Bool·beq) (setsIn k n table) (choose k n)
+agrees : ℕ → Bool
+agrees n = same (same Bool·beq) (setsIn n table) (taskSets n)
 
--- tried for every number of tasks to 8 and every size of a set from 1 to 9
-all-agree : any 9 (λ n. any 9 (λ s. not (agrees (suc s) n))) ≡ false
-unfolding any agrees same setsIn setOfMask table masksFrom maskOf ones choose
+-- tried for every number of tasks to 8
+all-agree : any 9 (λ n. not (agrees n)) ≡ false
+unfolding any agrees same setsIn setOfMask table maskOf setsFrom choose
 all-agree = refl
 
-pub table-choose : (s n : ℕ) → s < 9 → n < 9 → setsIn (suc s) n table ≡ choose (suc s) n
+pub table-sets : (n : ℕ) → n < 9 → setsIn n table ≡ taskSets n
 unfolding agrees
-table-choose s n hs hn =
-    same-equal (same Bool·beq) (same-equal Bool·beq beq-equal) (setsIn (suc s) n table) (choose (suc s) n)
-    (not-false (agrees (suc s) n) (any-false 9 (λ s. not (agrees (suc s) n)) (any-false 9 (λ n. any 9 (λ s. not (agrees (suc s) n))) all-agree n hn) s hs))
+table-sets n h =
+    same-equal (same Bool·beq) (same-equal Bool·beq beq-equal) (setsIn n table) (taskSets n) (not-false (agrees n) (any-false 9 (λ n. not (agrees n)) all-agree n h))

@@ -9,8 +9,8 @@ use lib.Dec.{eqb}
 use borrow.Author.Tests.{eq-eqb}
 use Rattle.model.specs.Set.{claim, release, deviceOf, Task, claims, claimed, balanced}
 use Rattle.model.specs.State.{State}
-use Rattle.model.specs.Hold.{holdsFrom, holding, held}
-use Rattle.model.specs.Forbidden.{TaskSet, choose, prefixed, sidesOf, boxesOf, boxesOfAll, deviceBoxes}
+use Rattle.model.specs.Hold.{holdsFrom, unitsAt, held}
+use Rattle.model.specs.Forbidden.{TaskSet, choose, setsFrom, taskSets, prefixed, sidesOf, choicesOf, choicesOfAll, boxesOf, deviceBoxes}
 use Rattle.model.proofs.Bools.{by-bool, by-cases, true-not-false, or-false, or-right}
 use Rattle.model.proofs.Each.{Each, each-all, each-append, each-map, each-member, member-each}
 
@@ -19,7 +19,7 @@ use Rattle.model.proofs.Each.{Each, each-all, each-append, each-map, ea
 unnamed : (d : ℕ) (task : Task) → claims d task ≡ false → balanced d false task ≡ true → Each (λ a. eqb (deviceOf a) d ≡ false) task
 unfolding claims balanced deviceOf
 unnamed d [] c b = tt
-unnamed d (claim e ∷ rest) c b =
+unnamed d (claim e u ∷ rest) c b =
     let r = or-false (eqb e d) (claims d rest) c in
     (r .0, unnamed d rest (r .1) (rw (r .0) at b))
 unnamed d (release e ∷ rest) c b =
@@ -53,11 +53,11 @@ module _ (d : ℕ) where
   no-holds : (p : ℕ) (task : Task) → claims d task ≡ false → holdsFrom d p task ≡ []
   unfolding claims holdsFrom
   no-holds p [] c = refl
-  no-holds p (claim e ∷ rest) c = let r = or-false (eqb e d) (claims d rest) c in rw (r .0) (no-holds (suc p) rest (r .1))
+  no-holds p (claim e u ∷ rest) c = let r = or-false (eqb e d) (claims d rest) c in rw (r .0) (no-holds (suc p) rest (r .1))
   no-holds p (release e ∷ rest) c = no-holds (suc p) rest c
 
   pub none-held : (tasks : List Task) (x : State) → claimed tasks d ≡ false → held d tasks x ≡ 0
-  unfolding claimed held holding
+  unfolding claimed held unitsAt
   none-held [] x c = refl
   none-held (task ∷ tasks) [] c = refl
   none-held (task ∷ tasks) (p ∷ x) c =
@@ -79,18 +79,25 @@ module _ (d : ℕ) where
       (each-map (λ c. Unit {0}) HasTask (λ c. true ∷ c) (λ c u. tt) (choose k n) (each-all (λ c. Unit {0}) (λ c. tt) (choose k n)))
       (each-map HasTask HasTask (λ c. false ∷ c) (λ c h. h) (choose (suc k) n) (has-task k n))
 
-  no-box : (c : TaskSet) (tasks : List Task) → claimed tasks d ≡ false → HasTask c → boxesOf d c tasks ≡ []
-  unfolding claimed boxesOf prefixed sidesOf
-  no-box [] tasks e h = absurd h
-  no-box (b ∷ c) [] e h = refl
-  no-box (true ∷ c) (task ∷ tasks) e h = rw (no-holds 0 task (or-false (claims d task) (claimed tasks d) e .0))
-  no-box (false ∷ c) (task ∷ tasks) e h = rw (no-box c tasks (or-false (claims d task) (claimed tasks d) e .1) h)
+  have-tasks : (k j n : ℕ) → Each HasTask (setsFrom (suc k) j n)
+  unfolding setsFrom
+  have-tasks k zero n = tt
+  have-tasks k (suc j) n = each-append HasTask (choose (suc k) n) (setsFrom (suc (suc k)) j n) (has-task k n) (have-tasks (suc k) j n)
 
-  no-boxes : (cs : List TaskSet) (tasks : List Task) → claimed tasks d ≡ false → Each HasTask cs → boxesOfAll d cs tasks ≡ []
-  unfolding boxesOfAll
-  no-boxes [] tasks e h = refl
-  no-boxes (c ∷ cs) tasks e h = rw (no-box c tasks e (h .0), no-boxes cs tasks e (h .1))
+  no-choice : (c : TaskSet) (tasks : List Task) → claimed tasks d ≡ false → HasTask c → choicesOf d c tasks ≡ []
+  unfolding claimed choicesOf prefixed sidesOf
+  no-choice [] tasks e h = absurd h
+  no-choice (b ∷ c) [] e h = refl
+  no-choice (true ∷ c) (task ∷ tasks) e h = rw (no-holds 0 task (or-false (claims d task) (claimed tasks d) e .0))
+  no-choice (false ∷ c) (task ∷ tasks) e h = rw (no-choice c tasks (or-false (claims d task) (claimed tasks d) e .1) h)
+
+  no-choices : (cs : List TaskSet) (tasks : List Task) → claimed tasks d ≡ false → Each HasTask cs → choicesOfAll d cs tasks ≡ []
+  unfolding choicesOfAll
+  no-choices [] tasks e h = refl
+  no-choices (c ∷ cs) tasks e h = rw (no-choice c tasks e (h .0), no-choices cs tasks e (h .1))
 
   pub none-forbidden : (capacity : ℕ) (tasks : List Task) → claimed tasks d ≡ false → deviceBoxes d capacity tasks ≡ []
-  unfolding deviceBoxes
-  none-forbidden capacity tasks e = no-boxes (choose (suc capacity) (length tasks)) tasks e (has-task capacity (length tasks))
+  unfolding deviceBoxes boxesOf
+  none-forbidden capacity tasks e =
+      let n = length tasks in
+      rw (no-choices (taskSets n) tasks e (have-tasks 0 n n))

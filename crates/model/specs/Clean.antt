@@ -1,4 +1,4 @@
--- The cleaner (SCOPE.md, "Cleaner"; refusals 1 to 12 by the former rules, 25): a set without the devices that no task claims, and its words in a lent slice.
+-- The cleaner (SCOPE.md, "Cleaner"; refusals 1 to 12 and 28 by the former rules, 25): a set without the devices that no task claims, and its words in a lent slice.
 use Prim.Native.Nat.{ℕ, suc}
 use mathlib.Core.Bool.{Bool, cond}
 use mathlib.Core.List.{List, [], _∷_, map}
@@ -20,9 +20,9 @@ keptFrom f d (c ∷ cs) = let more = keptFrom f (suc d) cs in cond (f d) (c ∷ 
 abbrev pub newNumber : List Task → ℕ → ℕ
 newNumber tasks d = howMany d (claimed tasks)
 
--- an action with another number for its device
+-- an action with another number for its device and the units that it has
 unfoldable pub renamed : (ℕ → ℕ) → Action → Action
-renamed f (claim d) = claim (f d)
+renamed f (claim d e) = claim (f d) e
 renamed f (release d) = release (f d)
 
 -- the tasks with other numbers for the devices

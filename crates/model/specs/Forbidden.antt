@@ -1,10 +1,11 @@
--- The forbidden boxes of a set, in order (SCOPE.md, "Forbidden boxes", after the published rule).
-use Prim.Native.Nat.{ℕ, zero, suc}
-use mathlib.Core.Bool.{Bool, true, false}
+-- The forbidden boxes of a set, in order (SCOPE.md, "Forbidden boxes", after the published rule, with counted units).
+use Prim.Native.Nat.{ℕ, zero, suc, _+_, _-_}
+use mathlib.Core.Bool.{Bool, true, false, cond, _&&_, _||_}
 use mathlib.Core.List.{List, [], _∷_, _++_, map}
 use lib.ListN.{length}
+use lib.Dec.{eqb, ltb, leb}
 use Rattle.model.specs.Set.{Task, Set}
-use Rattle.model.specs.Hold.{Interval, holds}
+use Rattle.model.specs.Hold.{Hold, holds}
 use Rattle.model.specs.Box.{Box}
 
 -- a task set: for each task, whether it is in the set
@@ -18,31 +19,67 @@ choose zero (suc n) = map (λ c. false ∷ c) (choose zero n)
 choose (suc k) zero = []
 choose (suc k) (suc n) = map (λ c. true ∷ c) (choose k n) ++ map (λ c. false ∷ c) (choose (suc k) n)
 
--- each interval of the first list put before each box of the second
-unfoldable pub prefixed : List Interval → List Box → List Box
-prefixed [] bs = []
-prefixed (i ∷ is) bs = map (λ b. i ∷ b) bs ++ prefixed is bs
+-- the sets of k to k + j - 1 among n tasks, smaller sets first
+unfoldable pub setsFrom : ℕ → ℕ → ℕ → List TaskSet
+setsFrom k zero n = []
+setsFrom k (suc j) n = choose k n ++ setsFrom (suc k) j n
 
--- the intervals of one task: its holds of device d if it is in the task set, else 0 to L
-unfoldable pub sidesOf : ℕ → Bool → Task → List Interval
+-- the non-empty sets of n tasks, smaller sets first, equal sizes by their ascending task lists
+abbrev pub taskSets : ℕ → List TaskSet
+taskSets n = setsFrom 1 n n
+
+-- a choice: for each task of a set one of its holds; a task outside the set stands over 0 to L and takes no units
+abbrev pub Choice : Type 0
+Choice = List Hold
+
+-- what one task can stand with in a choice: its holds of device d if it is in the task set, else 0 to L
+unfoldable pub sidesOf : ℕ → Bool → Task → List Hold
 sidesOf d true task = holds d task
-sidesOf d false task = record { low = 0; high = length task } ∷ []
+sidesOf d false task = record { over = record { low = 0; high = length task }; units = 0 } ∷ []
 
--- the boxes of device d and a task set, the first task's hold weighing most
-unfoldable pub boxesOf : ℕ → TaskSet → List Task → List Box
-boxesOf d [] [] = [] ∷ []
-boxesOf d [] (task ∷ tasks) = []
-boxesOf d (c ∷ cs) [] = []
-boxesOf d (c ∷ cs) (task ∷ tasks) = prefixed (sidesOf d c task) (boxesOf d cs tasks)
+-- each hold of the first list put before each choice of the second
+unfoldable pub prefixed : List Hold → List Choice → List Choice
+prefixed [] cs = []
+prefixed (h ∷ hs) cs = map (λ c. h ∷ c) cs ++ prefixed hs cs
+
+-- the choices of device d and a task set, the first task's hold weighing most
+unfoldable pub choicesOf : ℕ → TaskSet → List Task → List Choice
+choicesOf d [] [] = [] ∷ []
+choicesOf d [] (task ∷ tasks) = []
+choicesOf d (c ∷ cs) [] = []
+choicesOf d (c ∷ cs) (task ∷ tasks) = prefixed (sidesOf d c task) (choicesOf d cs tasks)
 
 -- over a list of task sets
-unfoldable pub boxesOfAll : ℕ → List TaskSet → List Task → List Box
-boxesOfAll d [] tasks = []
-boxesOfAll d (c ∷ cs) tasks = boxesOf d c tasks ++ boxesOfAll d cs tasks
+unfoldable pub choicesOfAll : ℕ → List TaskSet → List Task → List Choice
+choicesOfAll d [] tasks = []
+choicesOfAll d (c ∷ cs) tasks = choicesOf d c tasks ++ choicesOfAll d cs tasks
 
--- device d of capacity s: a box for each set of s + 1 tasks and each choice of one hold in each
+-- the units of a choice together
+unfoldable pub total : Choice → ℕ
+total [] = 0
+total (h ∷ c) = h .units + total c
+
+-- of n units together no single hold can be left out: what is left doesn't exceed capacity s. An entry without units is a task outside the set, and no hold
+unfoldable pub eachNeeded : ℕ → ℕ → Choice → Bool
+eachNeeded s n [] = true
+eachNeeded s n (h ∷ c) = (eqb (h .units) 0 || leb (n - h .units) s) && eachNeeded s n c
+
+-- the units exceed capacity s, but no longer do when any single hold is left out
+unfoldable pub justExceeds : ℕ → Choice → Bool
+justExceeds s c = ltb s (total c) && eachNeeded s (total c) c
+
+-- the box of a choice
+abbrev pub boxOf : Choice → Box
+boxOf c = map (λ h. h .over) c
+
+-- the boxes of those choices that just exceed capacity s
+unfoldable pub boxesOf : ℕ → List Choice → List Box
+boxesOf s [] = []
+boxesOf s (c ∷ cs) = let rest = boxesOf s cs in cond (justExceeds s c) (boxOf c ∷ rest) rest
+
+-- device d of capacity s: task set by task set, a box for each choice of holds, one a task, that just exceeds the capacity
 unfoldable pub deviceBoxes : ℕ → ℕ → List Task → List Box
-deviceBoxes d s tasks = boxesOfAll d (choose (suc s) (length tasks)) tasks
+deviceBoxes d s tasks = boxesOf s (choicesOfAll d (taskSets (length tasks)) tasks)
 
 -- a forbidden box with the device that it belongs to
 pub record Forbidden : Type 0 where

@@ -35,14 +35,26 @@ RELEASE = 4
 abbrev pub END : ℕ
 END = 5
 
--- CLAIM or RELEASE, with the device as field
+-- the field of a CLAIM: bits 23 to 16 are the extra units, bits 15 to 0 the device
+abbrev pub claimField : ℕ → ℕ → ℕ
+claimField device extra = extra * 0x10000 + device
+
+-- its bits 15 to 0
+abbrev pub deviceBits : ℕ → ℕ
+deviceBits f = f % 0x10000
+
+-- its bits 23 to 16
+abbrev pub extraBits : ℕ → ℕ
+extraBits f = f / 0x10000 % 0x100
+
+-- CLAIM with its units and device, or RELEASE with the device as field
 unfoldable pub actionWord : Action → ℕ
-actionWord (claim d) = word CLAIM d
+actionWord (claim d e) = word CLAIM (claimField d e)
 actionWord (release d) = word RELEASE d
 
 -- the action of a word that is a CLAIM or a RELEASE
 unfoldable pub actionOf : ℕ → Action
-actionOf w = cond (eqb (kindOf w) CLAIM) (claim (fieldOf w)) (release (fieldOf w))
+actionOf w = let f = fieldOf w in cond (eqb (kindOf w) CLAIM) (claim (deviceBits f) (extraBits f)) (release f)
 
 -- each task: a TASK, then its actions
 unfoldable pub taskWords : List Task → List ℕ
@@ -77,7 +89,7 @@ pub record WellFormedBy (rules : Rules) (s : Set) : Type 0 where
   pub devices : length (s .capacities) ≤ 16
   pub some-task : 1 ≤ length (s .tasks)
   pub tasks : length (s .tasks) ≤ 8
-  pub each-task : (t : ℕ) → t < length (s .tasks) → GoodTask (length (s .capacities)) (taskAt s t)
+  pub each-task : (t : ℕ) → t < length (s .tasks) → GoodTask (s .capacities) (taskAt s t)
   pub each-device : rules ≡ present → (d : ℕ) → d < length (s .capacities) → claimed (s .tasks) d ≡ true
   pub grid : size (lengthsOf s) ≤ 65536
   pub words : length (encode s) ≤ 4096

@@ -8,11 +8,11 @@ pub mod Read
 pub mod Clean
 pub mod State
 pub mod Hold
-pub mod Since
 pub mod Run
 pub mod Box
 pub mod Forbidden
 pub mod TaskTable
+pub mod Since
 pub mod Map
 pub mod Reach
 pub mod UnsafeBoxes

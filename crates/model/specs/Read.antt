@@ -1,4 +1,4 @@
--- Reading a set (SCOPE.md, "Refusals", 1 to 12 and 24): the words' first fault, or the set that they declare.
+-- Reading a set (SCOPE.md, "Refusals", 1 to 12, 24 and 28): the words' first fault, or the set that they declare.
 use Prim.Native.Nat.{ℕ, suc, _-_}
 use mathlib.Core.Bool.{Bool, true, false, not, cond, _&&_, _||_}
 use mathlib.Core.List.{List, [], _∷_, _++_}
@@ -6,8 +6,8 @@ use lib.ListN.{length}
 use lib.Dec.{eqb, ltb, leb}
 use Rattle.model.specs.Below.{any, lowest}
 use Rattle.model.specs.Answer.{Answer, given, refused, _then_}
-use Rattle.model.specs.Set.{Action, claim, release, Task, Set, lengthsOf, claimed, size}
-use Rattle.model.specs.Layout.{kindOf, fieldOf, DEVICE, TASK, CLAIM, RELEASE, END, Rules, present}
+use Rattle.model.specs.Set.{Action, claim, release, Task, Set, lengthsOf, claimed, at, size}
+use Rattle.model.specs.Layout.{kindOf, fieldOf, deviceBits, extraBits, DEVICE, TASK, CLAIM, RELEASE, END, Rules, present}
 
 -- the task opened last, and the tasks with one more action in it
 unfoldable pub lastTask : List Task → Task
@@ -23,8 +23,8 @@ addAction (t ∷ u ∷ ts) a = t ∷ addAction (u ∷ ts) a
 -- whether a task holds device d after these actions, where it held it before (h) or not
 unfoldable pub heldAfter : ℕ → Bool → Task → Bool
 heldAfter d h [] = h
-heldAfter d h (claim e ∷ rest) = heldAfter d (eqb e d || h) rest
-heldAfter d h (release e ∷ rest) = heldAfter d (not (eqb e d) && h) rest
+heldAfter d h (claim c e ∷ rest) = heldAfter d (eqb c d || h) rest
+heldAfter d h (release c ∷ rest) = heldAfter d (not (eqb c d) && h) rest
 
 -- the words read so far: the set that they declare, and whether END was among them
 pub record Scan : Type 0 where
@@ -42,7 +42,7 @@ note s k f =
     let ts = s .set .tasks in
     cond (eqb k DEVICE) (record { set = record { capacities = cs ++ (f ∷ []); tasks = ts }; ended = false })
     (cond (eqb k TASK) (record { set = record { capacities = cs; tasks = ts ++ ([] ∷ []) }; ended = false })
-    (cond (eqb k CLAIM) (record { set = record { capacities = cs; tasks = addAction ts (claim f) }; ended = false })
+    (cond (eqb k CLAIM) (record { set = record { capacities = cs; tasks = addAction ts (claim (deviceBits f) (extraBits f)) }; ended = false })
     (cond (eqb k RELEASE) (record { set = record { capacities = cs; tasks = addAction ts (release f) }; ended = false })
     (record { set = s .set; ended = true }))))
 
@@ -68,13 +68,15 @@ module _ (s : Scan) where
       (cond (eqb k TASK) false
       (eqb taskCount 0))
 
-  -- 6: a capacity is 1 to 8, TASK's field is 0, an action's a declared device, END's the number i of words before it
+  -- 6: a capacity is 1 to 8, TASK's field is 0, CLAIM's has a declared device in bits 15 to 0 and no bit above 23, RELEASE's is a declared device, END's
+  -- the number i of words before it
   unfoldable pub fieldAllowed : ℕ → ℕ → ℕ → Bool
   fieldAllowed i k f =
       cond (eqb k DEVICE) (leb 1 f && leb f 8)
       (cond (eqb k TASK) (eqb f 0)
+      (cond (eqb k CLAIM) (ltb f 0x1000000 && ltb (deviceBits f) deviceCount)
       (cond (eqb k END) (eqb f i)
-      (ltb f deviceCount)))
+      (ltb f deviceCount))))
 
   -- 7: 17th device, 9th task, 256th action
   unfoldable pub tooMany : ℕ → Bool
@@ -84,7 +86,11 @@ module _ (s : Scan) where
       (cond (eqb k END) false
       (leb 255 (length (lastTask (s .set .tasks))))))
 
-  -- the lowest number that the word of kind k and field f at index i brings, 0 if none
+  -- 28: a claim of more units than the device has
+  unfoldable pub tooManyUnits : ℕ → Bool
+  tooManyUnits f = ltb (at (s .set .capacities) (deviceBits f)) (suc (extraBits f))
+
+  -- the first number, in the order 3, 4, 5, 6, 7, 28, 8, 9, 10, that the word of kind k and field f at index i brings, 0 if none
   unfoldable pub fault : ℕ → ℕ → ℕ → ℕ
   fault i k f =
       cond (s .ended) 3
@@ -92,10 +98,11 @@ module _ (s : Scan) where
       (cond (outOfOrder k) 5
       (cond (not (fieldAllowed i k f)) 6
       (cond (tooMany k) 7
-      (cond (eqb k CLAIM && holdsNow f) 8
+      (cond (eqb k CLAIM && tooManyUnits f) 28
+      (cond (eqb k CLAIM && holdsNow (deviceBits f)) 8
       (cond (eqb k RELEASE && not (holdsNow f)) 9
       (cond ((eqb k TASK || eqb k END) && holdsSome) 10
-      0)))))))
+      0))))))))
 
 -- what a reading answers: the set, or the refusal's number and place
 abbrev pub Reading : Type 0

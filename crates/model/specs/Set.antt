@@ -6,19 +6,25 @@ use mathlib.Core.List.{List, [], _∷_, map}
 use lib.ListN.{length, getD}
 use lib.Dec.{eqb}
 
--- a claim or a release of a device
+-- a claim of a device with its extra units, those beside the first; or a release of a device, which gives all units back
 pub data Action : Type 0 where
-  claim release : ℕ → Action
+  claim : ℕ → ℕ → Action
+  release : ℕ → Action
 
 -- the device that an action names
 unfoldable pub deviceOf : Action → ℕ
-deviceOf (claim d) = d
+deviceOf (claim d e) = d
 deviceOf (release d) = d
 
 -- whether an action is a claim
 unfoldable pub isClaim : Action → Bool
-isClaim (claim d) = true
+isClaim (claim d e) = true
 isClaim (release d) = false
+
+-- the units that an action takes: one and the extra ones for a claim
+unfoldable pub unitsTaken : Action → ℕ
+unitsTaken (claim d e) = suc e
+unitsTaken (release d) = 0
 
 -- a straight list of actions
 abbrev pub Task : Type 0
@@ -42,13 +48,13 @@ abbrev pub taskAt : Set → ℕ → Task
 taskAt s t = getD (s .tasks) t []
 
 abbrev pub actionAt : Set → ℕ → ℕ → Action
-actionAt s t p = getD (taskAt s t) p (claim 0)
+actionAt s t p = getD (taskAt s t) p (claim 0 0)
 
 -- whether some action of a task claims device d
 unfoldable pub claims : ℕ → Task → Bool
 claims d [] = false
-claims d (claim e ∷ rest) = eqb e d || claims d rest
-claims d (release e ∷ rest) = claims d rest
+claims d (claim c e ∷ rest) = eqb c d || claims d rest
+claims d (release c ∷ rest) = claims d rest
 
 -- whether some task claims device d
 unfoldable pub claimed : List Task → ℕ → Bool
@@ -68,11 +74,12 @@ size (l ∷ ls) = suc l * size ls
 -- at its close
 unfoldable pub balanced : ℕ → Bool → Task → Bool
 balanced d h [] = not h
-balanced d h (claim e ∷ rest) = cond (eqb e d) (not h && balanced d true rest) (balanced d h rest)
-balanced d h (release e ∷ rest) = cond (eqb e d) (h && balanced d false rest) (balanced d h rest)
+balanced d h (claim c e ∷ rest) = cond (eqb c d) (not h && balanced d true rest) (balanced d h rest)
+balanced d h (release c ∷ rest) = cond (eqb c d) (h && balanced d false rest) (balanced d h rest)
 
--- a task of a set with n devices: at most 255 actions on declared devices, balanced for each
-pub record GoodTask (n : ℕ) (task : Task) : Type 0 where
+-- a task of a set with these capacities: at most 255 actions on declared devices, no claim of more units than its device has, balanced for each device
+pub record GoodTask (capacities : List ℕ) (task : Task) : Type 0 where
   pub actions : length task ≤ 255
-  pub declared : (p : ℕ) → p < length task → deviceOf (getD task p (claim 0)) < n
+  pub declared : (p : ℕ) → p < length task → deviceOf (getD task p (claim 0 0)) < length capacities
+  pub units : (p : ℕ) → p < length task → unitsTaken (getD task p (claim 0 0)) ≤ at capacities (deviceOf (getD task p (claim 0 0)))
   pub balance : (d : ℕ) → balanced d false task ≡ true

@@ -1,7 +1,7 @@
 // The numbers of docs/SCOPE.md, by name. What they mean stands in specs/, and the theorems on it in proofs/.
 
 // The version of all that is built from here: major times 10,000, minor times 100, patch. CHANGELOG.md says what moves which.
-pub const VERSION: u32 = 50100;
+pub const VERSION: u32 = 60000;
 
 // The limits of a set.
 pub const MAX_WORDS: usize = 4096;
@@ -18,6 +18,13 @@ pub const MAX_GRID: u32 = 65536;
 
 // A word is its kind times this, plus its field.
 pub const FIELDS: u32 = 0x1000_0000;
+
+// A CLAIM's field is its extra units, those beside the first, times this, plus its device; so many numbers of extra units and so many fields there are.
+pub const DEVICES: u32 = 0x1_0000;
+
+pub const EXTRA_UNITS: u32 = 0x100;
+
+pub const CLAIM_FIELDS: u32 = 0x100_0000;
 
 // The kinds of a set's words; a plan ends with END too.
 pub const DEVICE: u32 = 1;
@@ -85,6 +92,8 @@ pub const NO_END: u8 = 11;
 pub const GRID_TOO_LARGE: u8 = 12;
 
 pub const UNCLAIMED_DEVICE: u8 = 24;
+
+pub const TOO_MANY_UNITS: u8 = 28;
 
 // The refusals of lent slices, input bytes, records and calls.
 pub const MAP_TOO_SHORT: u8 = 13;

@@ -23,7 +23,7 @@ use Rattle.reader.proofs.FaultLaws.{word-fault}
 
 -- the runs together stop for good: where there are tasks a DEVICE is out of order, and where there are none the devices stopped here
 module _ (ws : List ℕ) (s : Scan) (i first : ℕ) (device : NoDevice ws (s .devices) 0 first) (none : s .tasks ≡ 0 → i ≡ first)
-    (task : NoTask ws (s .tasks) (s .held) i) (action : NoAction ws (s .devices) (s .tasks) (at (s .lengths) (s .tasks - 1)) (s .held) i) where
+    (task : NoTask ws (s .tasks) (s .held) i) (action : NoAction ws (s .devices) (s .capacities) (s .tasks) (at (s .lengths) (s .tasks - 1)) (s .held) i) where
   device-stops : NoDevice ws (s .devices) (s .tasks) i
   unfolding deviceFault
   device-stops h e =

@@ -1,23 +1,25 @@
 -- The numbers that the code finds are the model's, and what a word without a fault keeps to.
 use Prim.Native.Nat.{ℕ, suc, _-_, _≤_, _<_}
-use mathlib.Core.Path.{_≡_, refl, ap}
+use mathlib.Core.Path.{_≡_, refl}
 use mathlib.Core.List.{List}
-use mathlib.Core.Bool.{Bool, true, false, not, cond, _&&_, Bool·beq}
+use mathlib.Core.Bool.{Bool, true, false, not, cond, _&&_, and-false as and-nothing}
 use native.Mathlib.Omega.{arith}
-use borrow.Author.Tests.{ltb-true, ltb-false, leb-true, leb-false, lt-leb, eqb-true, eqb-false, not-false}
+use borrow.Author.Tests.{lt-ltb, le-ltb, ltb-true, ltb-false, leb-true, leb-false, lt-leb, eqb-true, eqb-false, not-false}
 use lib.ListN.{length, getD}
 use lib.Dec.{eqb, ltb, leb}
 use Rattle.model.specs.Below.{any, tabulate}
 use Rattle.model.specs.Set.{Task, lengths, at}
-use Rattle.model.specs.Read.{lastTask, holdsNow, outOfOrder, fieldAllowed, tooMany, fault}
+use Rattle.model.specs.Layout.{deviceBits, extraBits}
+use Rattle.model.specs.Read.{lastTask, holdsNow, outOfOrder, fieldAllowed, tooMany, tooManyUnits, fault}
 use Rattle.model.specs.Read as model
 use Rattle.model.proofs.Bools.{by-bool, and-true}
 use Rattle.model.proofs.Lists.{getD-tabulate}
 use Rattle.shape.specs.ShapeOf.{padded}
-use Rattle.reader.specs.Faults.{someHeld, deviceFault, taskFault, actionFault, endFault, wordFault}
+use Rattle.shape.proofs.Padded.{padded-at}
+use Rattle.reader.specs.Faults.{someHeld, deviceFault, taskFault, heldFault, unitsFault, actionFault, endFault, wordFault}
 use Rattle.reader.specs.Follow.{scanOf, Limits}
 use Rattle.reader.proofs.Held.{any-entry}
-use Rattle.reader.proofs.LastTask.{count-last}
+use Rattle.reader.proofs.LastTask.{named, count-last}
 
 -- ---- a word without a fault
 -- a rule whose number doesn't come is kept
@@ -42,11 +44,23 @@ task-kept tasks held f e =
     let p₇ = kept (leb 8 tasks) 6 _ (kept (not (eqb f 0)) 5 _ e .1) in
     (leb-false 8 tasks (p₇ .0), kept (someHeld held) 9 0 (p₇ .1) .0)
 
-pub action-kept : (devices tasks l : ℕ) (held : List Bool) (b : Bool) (f : ℕ) → actionFault devices tasks l held b f ≡ 0 → (f < devices) × (l < 255)
-unfolding actionFault
-action-kept devices tasks l held b f e =
-    let p₆ = kept (not (ltb f devices)) 5 _ (kept (eqb tasks 0) 4 _ e .1) in
-    (ltb-true f devices (not-false _ (p₆ .0)), leb-false 255 l (kept (leb 255 l) 6 _ (p₆ .1) .0))
+-- of an action the device is in the low bits, a RELEASE's too
+pub action-kept : (devices : ℕ) (cs : List ℕ) (tasks l : ℕ) (held : List Bool) (b : Bool) (f : ℕ) → devices ≤ 16 → actionFault devices cs tasks l held b f ≡ 0
+    → (named b f < devices) × (l < 255) × (deviceBits f ≡ named b f)
+unfolding actionFault unitsFault
+action-kept devices cs tasks l held b f few e =
+    let z = kept (eqb tasks 0) 4 _ e .1 in
+    by-bool (ltb f devices)
+    (λ k.
+    let below = ltb-true f devices k in
+    let room = leb-false 255 l (kept (leb 255 l) 6 _ (rw k at z) .0) in
+    by-bool b (λ c. rw c (omega arith, room, refl)) (λ c. rw c (below, room, omega arith)))
+    (λ k. by-bool b
+    (λ c.
+    let p₆ = kept (not (ltb f 0x1000000 && ltb (deviceBits f) devices)) 5 _ (rw (k, c) at z) in
+    let below = ltb-true (deviceBits f) devices (and-true (ltb f 0x1000000) _ (not-false _ (p₆ .0)) .1) in
+    rw c (below, leb-false 255 l (kept (leb 255 l) 6 _ (p₆ .1) .0), refl))
+    (λ c. absurd (omega (arith, rw (k, c) at z))))
 
 -- ---- the model's numbers
 -- a kind that is none of the five
@@ -91,36 +105,65 @@ module _ (m : model.Scan) (i : ℕ) (ok : Limits m i) where
   unfolding endFault fault outOfOrder fieldAllowed tooMany
   end-fault f = rw (ok .running, some-held)
 
-  -- the fault of a CLAIM (b) or a RELEASE: z where the tests before 8 and 9 pass
-  abbrev actionTests : ℕ → ℕ → ℕ
-  actionTests f z = cond (eqb (length ts) 0) 5 (cond (not (ltb f (length cs))) 6 (cond (leb 255 (length (lastTask ts))) 7 z))
+  -- a CLAIM or a RELEASE of what is held or not
+  claim-held : (h : Bool) → heldFault h true ≡ cond h 8 0
+  unfolding heldFault
+  claim-held true = refl
+  claim-held false = refl
 
-  by-claim : (b : Bool) (f : ℕ) → actionTests f (cond (Bool·beq (holdsNow m f) b) (cond b 8 9) 0) ≡ fault m i (cond b 3 4) f
-  unfolding fault outOfOrder fieldAllowed tooMany
-  by-claim true f = rw (ok .running) (ap (actionTests f) (claimed (holdsNow m f)))
-    where
-      claimed : (x : Bool) → _≡_ {A = ℕ} (cond (Bool·beq x true) 8 0) (cond x 8 0)
-      claimed true = refl
-      claimed false = refl
-  by-claim false f = rw (ok .running) (ap (actionTests f) (released (holdsNow m f)))
-    where
-      released : (x : Bool) → _≡_ {A = ℕ} (cond (Bool·beq x false) 9 0) (cond (not x) 9 0)
-      released true = refl
-      released false = refl
+  release-held : (h : Bool) → heldFault h false ≡ cond (not h) 9 0
+  unfolding heldFault
+  release-held true = refl
+  release-held false = refl
 
-  pub action-fault : (b : Bool) (f : ℕ)
-      → actionFault (length cs) (length ts) (at (padded 8 (lengths ts)) (length ts - 1)) held b f ≡ fault m i (cond b 3 4) f
-  unfolding actionFault
-  action-fault b f =
-      rw (← by-claim b f)
-      (by-bool (eqb (length ts) 0) (λ e. rw e) λ some.
+  -- a declared device alone has no bit of the units, and it has the one unit
+  module _ (f : ℕ) (declared : ltb f (length cs) ≡ true) where
+    below : f < length cs
+    below = ltb-true f (length cs) declared
+
+    bits-are : deviceBits f ≡ f
+    bits-are = omega (arith, below, ok .devices)
+
+    no-extra : extraBits f ≡ 0
+    no-extra = omega (arith, below, ok .devices)
+
+    one-unit : ltb (at cs f) 1 ≡ false
+    one-unit = le-ltb (at cs f) 1 (ok .some-unit f below)
+
+    no-bits : ltb f 0x1000000 ≡ true
+    no-bits = lt-ltb f 0x1000000 (omega (arith, below, ok .devices))
+
+  -- the number of actions of the task opened last
+  abbrev count : ℕ
+  count = at (padded 8 (lengths ts)) (length ts - 1)
+
+  counted : eqb (length ts) 0 ≡ false → count ≡ length (lastTask ts)
+  counted some = count-last 8 ts (omega (arith, eqb-false (length ts) 0 some)) (ok .tasks)
+
+  pub action-fault : (b : Bool) (f : ℕ) → actionFault (length cs) (padded 16 cs) (length ts) count held b f ≡ fault m i (cond b 3 4) f
+  unfolding actionFault unitsFault fault outOfOrder fieldAllowed tooMany tooManyUnits
+  action-fault true f =
+      by-bool (eqb (length ts) 0) (λ e. rw (ok .running, e)) λ some.
       by-bool (ltb f (length cs))
-      (λ named.
+      (λ e. rw (ok .running, some, counted some, bits-are f e, no-extra f e, no-bits f e, e, one-unit f e, held-at f (below f e), claim-held (holdsNow m f)))
+      (λ e. by-bool (ltb (deviceBits f) (length cs))
+      (λ k.
       rw (
-        count-last 8 ts (omega (arith, eqb-false (length ts) 0 some)) (ok .tasks),
-        held-at f (ltb-true f (length cs) named),
+        ok .running,
+        some,
+        counted some,
+        e,
+        k,
+        padded-at 16 cs (ok .devices) (deviceBits f),
+        held-at (deviceBits f) (ltb-true (deviceBits f) (length cs) k),
+        claim-held (holdsNow m (deviceBits f)),
       ))
-      λ e. rw (some, e))
+      (λ k. rw (ok .running, some, e, k, and-nothing)))
+  action-fault false f =
+      by-bool (eqb (length ts) 0) (λ e. rw (ok .running, e)) λ some.
+      by-bool (ltb f (length cs))
+      (λ e. rw (ok .running, some, counted some, e, held-at f (below f e), release-held (holdsNow m f)))
+      (λ e. rw (ok .running, some, e))
 
   none-known : (k f : ℕ) → (leb 1 k && leb k 5) ≡ false → 4 ≡ fault m i k f
   unfolding fault

@@ -17,7 +17,7 @@ use Rattle.reader.specs.declared.scan.Scan.{Scan}
 use Rattle.reader.specs.Faults.{deviceFault, taskFault, actionFault}
 use Rattle.reader.specs.Follow.{scanned, scanOf, Limits, Reached, counted, Opened}
 use Rattle.reader.proofs.Arrays.{padded-past}
-use Rattle.reader.proofs.LastTask.{count-last}
+use Rattle.reader.proofs.LastTask.{named, count-last}
 use Rattle.reader.proofs.FaultLaws.{task-kept, action-kept, some-held, device-fault, task-fault, action-fault}
 use Rattle.reader.proofs.Steps.{added, added-limits, opened, opened-limits, acted, acted-limits}
 
@@ -29,10 +29,10 @@ withDevice s f = scanned (s .devices + 1) (set (s .capacities) (s .devices) f) (
 abbrev pub withTask : Scan → ℕ → Scan
 withTask s i = scanned (s .devices) (s .capacities) (s .tasks + 1) (s .lengths) (set (s .starts) (s .tasks) (i + 1)) (s .held) (s .claimed)
 
--- with one action more in the last task, a CLAIM (b) or a RELEASE of device f
+-- with one action more in the last task, a CLAIM (b) or a RELEASE of field f
 abbrev withAction : Scan → Bool → ℕ → Scan
 withAction s b f =
-    scanned (s .devices) (s .capacities) (s .tasks) (set (s .lengths) (s .tasks - 1) (at (s .lengths) (s .tasks - 1) + 1)) (s .starts) (set (s .held) f b) (set (s .claimed) f true)
+    scanned (s .devices) (s .capacities) (s .tasks) (set (s .lengths) (s .tasks - 1) (at (s .lengths) (s .tasks - 1) + 1)) (s .starts) (set (s .held) (named b f) b) (set (s .claimed) (named b f) true)
 
 module _ (ws : List ℕ) (s : Scan) (i : ℕ) (here : Reached ws s i) where
   pub few-devices : s .devices ≤ 16
@@ -75,7 +75,7 @@ module _ (ws : List ℕ) (s : Scan) (i : ℕ) (here : Reached ws s i) where
       let ts = m .set .tasks in
       rw (here .same) (rw (length-map {B = ℕ} ts length) at (padded-past 8 (lengths ts)))
 
-  pub opens : i < length ws → k ≡ 2 → taskFault (s .tasks) (s .held) f ≡ 0 → Opened ws (withTask s i) (s .devices) (s .tasks + 1) (s .held) (s .claimed) (i + 1)
+  pub opens : i < length ws → k ≡ 2 → taskFault (s .tasks) (s .held) f ≡ 0 → Opened ws (withTask s i) (s .devices) (s .capacities) (s .tasks + 1) (s .held) (s .claimed) (i + 1)
   opens h kind free =
       let faultless : fault m i 2 f ≡ 0 = sym (task-fault m i (here .limits) f) ∙ (rw (here .same) at free) in
       let none = sym (some-held m i (here .limits)) ∙ (rw (here .same) at (task-kept (s .tasks) (s .held) f free .1)) in
@@ -86,25 +86,26 @@ module _ (ws : List ℕ) (s : Scan) (i : ℕ) (here : Reached ws s i) where
             (ap (λ (x : Scan). withTask x i) (here .same) ∙ rw kind (opened m i f (here .limits) none));
         some = omega arith;
         device-count = refl;
+        of-capacities = refl;
         task-count = refl;
         holds = refl;
         claimed-so-far = refl;
         none = rw last none-past;
       }
 
-  acts : (b : Bool) → i < length ws → k ≡ cond b 3 4 → 1 ≤ s .tasks → actionFault (s .devices) (s .tasks) (at (s .lengths) (s .tasks - 1)) (s .held) b f ≡ 0
+  acts : (b : Bool) → i < length ws → k ≡ cond b 3 4 → 1 ≤ s .tasks → actionFault (s .devices) (s .capacities) (s .tasks) (at (s .lengths) (s .tasks - 1)) (s .held) b f ≡ 0
       → Reached ws (withAction s b f) (i + 1)
   acts b h kind some free =
       let ts = m .set .tasks in
       let some-open : 1 ≤ length ts = rw (here .same) at some in
       let faultless : fault m i (cond b 3 4) f ≡ 0 = sym (action-fault m i (here .limits) b f) ∙ (rw (here .same) at free) in
-      let named : f < length (m .set .capacities) = rw (here .same) at (action-kept (s .devices) _ _ (s .held) b f free .0) in
+      let declared : named b f < length (m .set .capacities) = rw (here .same) at (action-kept (s .devices) _ _ _ (s .held) b f few-devices free .0) in
       goes-on (withAction s b f) h (rw kind faultless)
-      (rw kind (acted-limits m i f (here .limits) some-open b (lt-ltb f (length (m .set .capacities)) named)))
+      (rw kind (acted-limits m i f (here .limits) some-open b (lt-ltb (named b f) (length (m .set .capacities)) declared)))
       (ap (λ (x : Scan). withAction x b f) (here .same) ∙ rw (kind, count-last 8 ts some-open (here .limits .tasks)) (acted m i f (here .limits) some-open b faultless))
 
 -- in the task just opened: no action yet, and one more
-module _ (ws : List ℕ) (s : Scan) (devices tasks : ℕ) (held₀ claimed₀ : List Bool) (from : ℕ) (o : Opened ws s devices tasks held₀ claimed₀ from) where
+module _ (ws : List ℕ) (s : Scan) (devices : ℕ) (capacities : List ℕ) (tasks : ℕ) (held₀ claimed₀ : List Bool) (from : ℕ) (o : Opened ws s devices capacities tasks held₀ claimed₀ from) where
   abbrev t : ℕ
   t = s .tasks - 1
 
@@ -120,10 +121,10 @@ module _ (ws : List ℕ) (s : Scan) (devices tasks : ℕ) (held₀ claimed₀ : 
       rw (zero, same, o .holds, o .claimed-so-far) (o .reached)
 
   pub one-action : (held claims : List Bool) (i : ℕ) → Reached ws (counted s (i - from) held claims) i → from ≤ i → i < length ws → (b : Bool) → kindOf (at ws i) ≡ cond b 3 4
-      → actionFault devices tasks (i - from) held b (fieldOf (at ws i)) ≡ 0
-      → Reached ws (counted s (i + 1 - from) (set held (fieldOf (at ws i)) b) (set claims (fieldOf (at ws i)) true)) (i + 1)
+      → actionFault devices capacities tasks (i - from) held b (fieldOf (at ws i)) ≡ 0
+      → Reached ws (counted s (i + 1 - from) (set held (named b (fieldOf (at ws i))) b) (set claims (named b (fieldOf (at ws i))) true)) (i + 1)
   one-action held claims i here later h b kind free =
       let now : at (set (s .lengths) t (i - from)) t ≡ i - from = getD-set-same (s .lengths) t (i - from) 0 in-array in
       let more : i - from + 1 ≡ i + 1 - from = omega arith in
-      let next = acts ws (counted s (i - from) held claims) i here b h kind (o .some) (rw (now, ← o .device-count, ← o .task-count) free) in
+      let next = acts ws (counted s (i - from) held claims) i here b h kind (o .some) (rw (now, ← o .device-count, ← o .of-capacities, ← o .task-count) free) in
       rw (now, set-set (s .lengths) t (i - from) (i - from + 1), more) at next

@@ -9,7 +9,7 @@ use lib.ListN.{length, getD, set, length-append, length-map}
 use lib.Dec.{eqb}
 use Rattle.model.specs.Below.{tabulate}
 use Rattle.model.specs.Set.{Action, claim, release, Task, lengths}
-use Rattle.model.specs.Layout.{taskWords}
+use Rattle.model.specs.Layout.{deviceBits, extraBits, taskWords}
 use Rattle.model.specs.Read.{lastTask, addAction, heldAfter}
 use Rattle.model.proofs.Held.{held-append}
 use Rattle.shape.specs.ShapeOf.{padded, startsFrom}
@@ -85,10 +85,14 @@ count-act zero (t ∷ ts) a h = refl
 count-act (suc n) (t ∷ []) a h = rw (length-append t (a ∷ []))
 count-act (suc n) (t ∷ u ∷ ts) a h = rw (last-up (length ts)) (ap {B = List ℕ} (λ l. length t ∷ l) (count-act n (u ∷ ts) a (omega arith)))
 
--- an action, a claim or not, makes its device held or free
+-- an action by its field, a claim or not, makes its device held or free
 unfoldable pub act : Bool → ℕ → Action
-act true d = claim d
-act false d = release d
+act true f = claim (deviceBits f) (extraBits f)
+act false f = release f
+
+-- the device that it names
+abbrev pub named : Bool → ℕ → ℕ
+named b f = cond b (deviceBits f) f
 
 or-cond : (a b : Bool) → (a || b) ≡ cond a true b
 or-cond true b = refl
@@ -98,7 +102,7 @@ and-cond : (a b : Bool) → (not a && b) ≡ cond a false b
 and-cond true b = refl
 and-cond false b = refl
 
-pub held-act : (d : ℕ) (h : Bool) (t : Task) (b : Bool) (e : ℕ) → heldAfter d h (t ++ (act b e ∷ [])) ≡ cond (eqb e d) b (heldAfter d h t)
+pub held-act : (d : ℕ) (h : Bool) (t : Task) (b : Bool) (f : ℕ) → heldAfter d h (t ++ (act b f ∷ [])) ≡ cond (eqb (named b f) d) b (heldAfter d h t)
 unfolding heldAfter act
-held-act d h t true e = held-append d h t (claim e ∷ []) ∙ or-cond (eqb e d) (heldAfter d h t)
-held-act d h t false e = held-append d h t (release e ∷ []) ∙ and-cond (eqb e d) (heldAfter d h t)
+held-act d h t true f = held-append d h t (claim (deviceBits f) (extraBits f) ∷ []) ∙ or-cond (eqb (deviceBits f) d) (heldAfter d h t)
+held-act d h t false f = held-append d h t (release f ∷ []) ∙ and-cond (eqb f d) (heldAfter d h t)

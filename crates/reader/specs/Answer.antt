@@ -1,4 +1,4 @@
--- What the reader's code answers (SCOPE.md, "Sets", and "Refusals", 1 to 12 and 24): the model's reading of the words, as the code's types hold it.
+-- What the reader's code answers (SCOPE.md, "Sets", and "Refusals", 1 to 12, 24 and 28): the model's reading of the words, as the code's types hold it.
 use Rattle.model.specs.Below.{tabulate}
 use Rattle.model.specs.Answer.{given, refused}
 use Rattle.model.specs.Set.{claimed}

@@ -31,10 +31,12 @@ scanOf m =
     scanned (length cs) (padded 16 cs) (length ts) (padded 8 (lengthsOf (m .set))) (padded 8 (startsFrom (length cs) ts)) (tabulate 16 (holdsNow m))
     (tabulate 16 (claimed ts))
 
--- what holds of each scan after i words without a fault and before END: the limits, the number of words, and that the open task holds declared devices only
+-- what holds of each scan after i words without a fault and before END: the limits, the number of words, and that each device has a unit and the open task
+-- holds declared devices only
 pub record Limits (m : model.Scan) (i : ℕ) : Type 0 where
   pub running : m .ended ≡ false
   pub devices : length (m .set .capacities) ≤ 16
+  pub some-unit : (d : ℕ) → d < length (m .set .capacities) → 1 ≤ at (m .set .capacities) d
   pub tasks : length (m .set .tasks) ≤ 8
   pub words : i ≡ length (m .set .capacities) + length (taskWords (m .set .tasks))
   pub declared : (d : ℕ) → length (m .set .capacities) ≤ d → holdsNow m d ≡ false
@@ -55,11 +57,12 @@ noTasks devices capacities = scanned devices capacities 0 (replicate 8 0) (repli
 abbrev pub counted : Scan → ℕ → List Bool → List Bool → Scan
 counted s c held claims = scanned (s .devices) (s .capacities) (s .tasks) (set (s .lengths) (s .tasks - 1) c) (s .starts) held claims
 
--- i words led to the opening of the last of so many tasks, with so many devices
-pub record Opened (ws : List ℕ) (s : Scan) (devices tasks : ℕ) (held claims : List Bool) (i : ℕ) : Type 0 where
+-- i words led to the opening of the last of so many tasks, with so many devices of these capacities
+pub record Opened (ws : List ℕ) (s : Scan) (devices : ℕ) (capacities : List ℕ) (tasks : ℕ) (held claims : List Bool) (i : ℕ) : Type 0 where
   pub reached : Reached ws s i
   pub some : 1 ≤ s .tasks
   pub device-count : devices ≡ s .devices
+  pub of-capacities : capacities ≡ s .capacities
   pub task-count : tasks ≡ s .tasks
   pub holds : held ≡ s .held
   pub claimed-so-far : claims ≡ s .claimed
@@ -74,9 +77,9 @@ abbrev pub NoTask : List ℕ → ℕ → List Bool → ℕ → Type 0
 NoTask ws tasks held i = i < length ws → kindOf (at ws i) ≡ TASK → 0 < taskFault tasks held (fieldOf (at ws i))
 
 -- why the actions do: it is no CLAIM (b) and no RELEASE, or has a fault
-abbrev pub NoAction : List ℕ → ℕ → ℕ → ℕ → List Bool → ℕ → Type 0
-NoAction ws devices tasks l held i =
-    i < length ws → (b : Bool) → kindOf (at ws i) ≡ cond b CLAIM RELEASE → 0 < actionFault devices tasks l held b (fieldOf (at ws i))
+abbrev pub NoAction : List ℕ → ℕ → List ℕ → ℕ → ℕ → List Bool → ℕ → Type 0
+NoAction ws devices capacities tasks l held i =
+    i < length ws → (b : Bool) → kindOf (at ws i) ≡ cond b CLAIM RELEASE → 0 < actionFault devices capacities tasks l held b (fieldOf (at ws i))
 
 -- why all of them do: it is END or has a fault
 abbrev pub Stops : List ℕ → Scan → ℕ → Type 0

@@ -3,7 +3,7 @@
 ghost use mathlib.Core.Path.{_≡_};
 ghost use Prim.Native.Nat.{_-_, _≤_};
 ghost use Rattle.model.specs.Layout.{kindOf, fieldOf};
-ghost use Rattle.reader.specs.Faults.{deviceFault, taskFault, actionFault, endFault, wordFault};
+ghost use Rattle.reader.specs.Faults.{deviceFault, taskFault, heldFault, unitsFault, actionFault, endFault, wordFault};
 use crate::rules;
 use crate::scan::Scan;
 
@@ -42,9 +42,10 @@ pub(crate) fn task_fault(tasks: usize, held: &[bool; model::MAX_DEVICES], field:
     NO_FAULT
 }
 
-// CLAIM where claim, else RELEASE, in a task with so many actions.
+// CLAIM where claim, else RELEASE, in a task with so many actions, after devices of these capacities.
 pub(crate) fn action_fault(
     devices: usize,
+    capacities: &[u8; model::MAX_DEVICES],
     tasks: usize,
     length: usize,
     held: &[bool; model::MAX_DEVICES],
@@ -52,24 +53,60 @@ pub(crate) fn action_fault(
     field: u32,
 ) -> u8
     requires { ⌜ devices ≤ 16 ⌝ }
-    ensures { λ r. ⌜ r ≡ actionFault devices tasks length (now (held .entry)) claim field ⌝ }
+    ensures { λ r. ⌜ r ≡ actionFault devices (now (capacities .entry)) tasks length (now (held .entry)) claim field ⌝ }
 {
     if rules::before_any_task(tasks) {
         return model::OUT_OF_ORDER;
     }
     if !rules::device_declared(field, devices) {
+        return units_fault(devices, capacities, length, held, claim, field);
+    }
+    // One unit every device has, so 28 can't come.
+    if rules::too_many_actions(length) {
+        return model::TOO_MANY;
+    }
+    held_fault(held[field as usize], claim)
+}
+
+// The same where the field isn't a declared device alone, which it must be in a RELEASE.
+fn units_fault(
+    devices: usize,
+    capacities: &[u8; model::MAX_DEVICES],
+    length: usize,
+    held: &[bool; model::MAX_DEVICES],
+    claim: bool,
+    field: u32,
+) -> u8
+    requires { ⌜ devices ≤ 16 ⌝ }
+    ensures { λ r. ⌜ r ≡ unitsFault devices (now (capacities .entry)) length (now (held .entry)) claim field ⌝ }
+{
+    if !claim {
+        return model::FIELD_NOT_ALLOWED;
+    }
+    let device = set_words::device_bits(field) as usize;
+    if !rules::claim_allowed(field, device, devices) {
         return model::FIELD_NOT_ALLOWED;
     }
     if rules::too_many_actions(length) {
         return model::TOO_MANY;
     }
-    if rules::conflicts(held[field as usize], claim) {
-        if claim {
-            return model::CLAIM_OF_HELD;
-        }
-        return model::RELEASE_OF_NOT_HELD;
+    if rules::too_many_units(set_words::units(field), capacities[device]) {
+        return model::TOO_MANY_UNITS;
     }
-    NO_FAULT
+    held_fault(held[device], true)
+}
+
+// The last rule for an action, on a device that its task holds or not.
+fn held_fault(held: bool, claim: bool) -> u8
+    ensures { λ r. ⌜ r ≡ heldFault held claim ⌝ }
+{
+    if !rules::conflicts(held, claim) {
+        return NO_FAULT;
+    }
+    if claim {
+        return model::CLAIM_OF_HELD;
+    }
+    model::RELEASE_OF_NOT_HELD
 }
 
 // END at index i.
@@ -103,6 +140,7 @@ pub(crate) fn word_fault(s: Scan, i: usize, word: u32) -> u8
     requires { ⌜ (s .devices ≤ 16) × (s .tasks ≤ 8) ⌝ }
     ensures { λ r. ⌜ r ≡ wordFault s i (kindOf word) (fieldOf word) ⌝ }
 {
+    let capacities = s.capacities;
     let held = s.held;
     let lengths = s.lengths;
     let length = lengths[last_of(s.tasks)] as usize;
@@ -111,8 +149,16 @@ pub(crate) fn word_fault(s: Scan, i: usize, word: u32) -> u8
     match kind {
         model::DEVICE => device_fault(s.devices, s.tasks, field),
         model::TASK => task_fault(s.tasks, &held, field),
-        model::CLAIM => action_fault(s.devices, s.tasks, length, &held, true, field),
-        model::RELEASE => action_fault(s.devices, s.tasks, length, &held, false, field),
+        model::CLAIM => action_fault(s.devices, &capacities, s.tasks, length, &held, true, field),
+        model::RELEASE => action_fault(
+            s.devices,
+            &capacities,
+            s.tasks,
+            length,
+            &held,
+            false,
+            field,
+        ),
         model::END => end_fault(s.tasks, i, &held, field),
         _ => model::UNKNOWN_KIND,
     }

@@ -34,11 +34,18 @@ pub(crate) fn field_empty(field: u32) -> bool
     field == 0
 }
 
-// 6: the field of a CLAIM or a RELEASE is a declared device.
+// 6: the field of a RELEASE, or of a CLAIM of one unit, is a declared device.
 pub(crate) fn device_declared(field: u32, devices: usize) -> bool
     ensures { λ r. ⌜ r ≡ ltb field devices ⌝ }
 {
     (field as usize) < devices
+}
+
+// 6: the field of a CLAIM has a declared device, and no bit above those of its units.
+pub(crate) fn claim_allowed(field: u32, device: usize, devices: usize) -> bool
+    ensures { λ r. ⌜ r ≡ (ltb field 0x1000000 && ltb device devices) ⌝ }
+{
+    field < model::CLAIM_FIELDS && device < devices
 }
 
 // 6: the field of an END is the number of words before it.
@@ -67,6 +74,13 @@ pub(crate) fn too_many_actions(length: usize) -> bool
     ensures { λ r. ⌜ r ≡ leb 255 length ⌝ }
 {
     model::MAX_ACTIONS as usize <= length
+}
+
+// 28: a CLAIM of more units than a device of this capacity has.
+pub(crate) fn too_many_units(units: u32, capacity: u8) -> bool
+    ensures { λ r. ⌜ r ≡ ltb capacity units ⌝ }
+{
+    (capacity as u32) < units
 }
 
 // 8 and 9: a CLAIM of what the task holds, or a RELEASE of what it doesn't.

@@ -1,7 +1,6 @@
 // Words in a row that have no fault: all but END, in a set without one. They are noted in arrays of their own, so that no word copies what was read before it.
-ghost use mathlib.Core.List.{List};
 ghost use mathlib.Core.Path.{_≡_};
-ghost use Prim.Native.Nat.{ℕ, _-_, _≤_};
+ghost use Prim.Native.Nat.{_-_, _≤_};
 ghost use Rattle.model.specs.Set.{at};
 ghost use Rattle.model.specs.Read.{nothingRead};
 ghost use Rattle.reader.specs.declared.scan.Scan.{Scan};
@@ -48,13 +47,14 @@ fn read_actions(
     words: &[u32],
     from: usize,
     devices: usize,
+    capacities: &[u8; model::MAX_DEVICES],
     tasks: usize,
     held: &mut [bool; model::MAX_DEVICES],
     claimed: &mut [bool; model::MAX_DEVICES],
 ) -> usize
-    requires { ⌜ ((s : Scan) × Opened (now words) s devices tasks (now held) (now claimed) from) ⌝ }
-    ensures { λ r. ⌜ (from ≤ r) × (r - from ≤ 255) × NoAction (now (words .entry)) devices tasks (r - from) (now (held .exit)) r
-        × ((s : Scan) → Opened (now (words .entry)) s devices tasks (now (held .entry)) (now (claimed .entry)) from
+    requires { ⌜ ((s : Scan) × Opened (now words) s devices (now capacities) tasks (now held) (now claimed) from) ⌝ }
+    ensures { λ r. ⌜ (from ≤ r) × (r - from ≤ 255) × NoAction (now (words .entry)) devices (now (capacities .entry)) tasks (r - from) (now (held .exit)) r
+        × ((s : Scan) → Opened (now (words .entry)) s devices (now (capacities .entry)) tasks (now (held .entry)) (now (claimed .entry)) from
         → Reached (now (words .entry)) (counted s (r - from) (now (held .exit)) (now (claimed .exit))) r) ⌝ }
 {
     let mut i = from;
@@ -65,13 +65,16 @@ fn read_actions(
             return i;
         }
         let claim = kind == model::CLAIM;
-        let device = set_words::field(word);
-        if faults::NO_FAULT < faults::action_fault(devices, tasks, i - from, held, claim, device) {
+        let field = set_words::field(word);
+        if faults::NO_FAULT
+            < faults::action_fault(devices, capacities, tasks, i - from, held, claim, field)
+        {
             return i;
         }
-        held[device as usize] = claim;
+        let device = set_words::device_bits(field) as usize;
+        held[device] = claim;
         // What a RELEASE without a fault names was claimed before.
-        claimed[device as usize] = true;
+        claimed[device] = true;
         i += 1;
     }
     i
@@ -83,17 +86,17 @@ fn read_tasks(
     words: &[u32],
     from: usize,
     devices: usize,
+    capacities: &[u8; model::MAX_DEVICES],
     lengths: &mut [u8; model::MAX_TASKS],
     starts: &mut [usize; model::MAX_TASKS],
     held: &mut [bool; model::MAX_DEVICES],
     claimed: &mut [bool; model::MAX_DEVICES],
 ) -> Tasks
-    requires { ⌜ ((capacities : List ℕ) × Reached (now words) (scanned devices capacities 0 (now lengths) (now starts) (now held) (now claimed)) from) ⌝ }
+    requires { ⌜ Reached (now words) (scanned devices (now capacities) 0 (now lengths) (now starts) (now held) (now claimed)) from ⌝ }
     ensures { λ r. ⌜ (r .count ≡ 0 → r .index ≡ from) × NoTask (now (words .entry)) (r .count) (now (held .exit)) (r .index)
-        × NoAction (now (words .entry)) devices (r .count) (at (now (lengths .exit)) (r .count - 1)) (now (held .exit)) (r .index)
-        × ((capacities : List ℕ)
-        → Reached (now (words .entry)) (scanned devices capacities 0 (now (lengths .entry)) (now (starts .entry)) (now (held .entry)) (now (claimed .entry))) from
-        → Reached (now (words .entry)) (scanned devices capacities (r .count) (now (lengths .exit)) (now (starts .exit)) (now (held .exit)) (now (claimed .exit))) (r .index)) ⌝ }
+        × NoAction (now (words .entry)) devices (now (capacities .entry)) (r .count) (at (now (lengths .exit)) (r .count - 1)) (now (held .exit)) (r .index)
+        × Reached (now (words .entry))
+        (scanned devices (now (capacities .entry)) (r .count) (now (lengths .exit)) (now (starts .exit)) (now (held .exit)) (now (claimed .exit))) (r .index) ⌝ }
 {
     let mut tasks = 0;
     let mut i = from;
@@ -107,7 +110,7 @@ fn read_tasks(
         }
         let first = i + 1;
         starts[tasks] = first;
-        i = read_actions(words, first, devices, tasks + 1, held, claimed);
+        i = read_actions(words, first, devices, capacities, tasks + 1, held, claimed);
         lengths[tasks] = (i - first) as u8;
         tasks += 1;
     }
@@ -132,6 +135,7 @@ pub(crate) fn read_runs(words: &[u32]) -> Run
         words,
         devices,
         devices,
+        &capacities,
         &mut lengths,
         &mut starts,
         &mut held,

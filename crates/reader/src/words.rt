@@ -1,4 +1,4 @@
-// All words, with the refusals 1 to 11. What the whole set must keep, refusals 24 and 12, comes after them.
+// All words, with the refusals 1 to 11 and 28. What the whole set must keep, refusals 24 and 12, comes after them.
 ghost use mathlib.Core.Path.{_≡_};
 ghost use Rattle.reader.specs.Follow.{ReadsAll};
 use crate::faults;

@@ -3,24 +3,30 @@ use Prim.Native.Nat.{ℕ, _<_}
 use native.Mathlib.Omega.{arith}
 use mathlib.Core.Path.{_≡_, refl, _∙_}
 use mathlib.Core.List.{List, [], _∷_, map, map-append}
-use Rattle.model.specs.Set.{Action, claim, release, deviceOf, Task}
-use Rattle.model.specs.Layout.{word, kindOf, fieldOf, TASK, CLAIM, RELEASE, actionWord, taskWords}
+use borrow.Author.Tests.{ne-eqb}
+use Rattle.model.specs.Set.{Action, claim, release, deviceOf, unitsTaken, Task}
+use Rattle.model.specs.Layout.{word, kindOf, claimField, TASK, CLAIM, RELEASE, actionWord, actionOf, taskWords}
 use Rattle.model.specs.Clean.{renamed, renamedTasks}
 use Rattle.model.proofs.Each.{Each, each-append, each-map, each-at}
-use Rattle.model.proofs.Words.{kind-word, field-word}
+use Rattle.model.proofs.Words.{kind-word, FitsWord, action-back}
 use Rattle.set_writer.specs.Renamed.{renamedWord, Named}
 
--- each action names one of 16 devices
+-- each action fits into a word
 abbrev Small : List Task → Type 0
-Small = Each (Each (λ a. deviceOf a < 16))
+Small = Each (Each FitsWord)
+
+-- the word of an action is no TASK
+no-task : (a : Action) → FitsWord a → kindOf (actionWord a) ≡ TASK → ⊥
+unfolding actionWord deviceOf unitsTaken
+no-task (claim d e) h k = omega (arith, kind-word CLAIM (claimField d e) (omega arith))
+no-task (release d) h k = omega (arith, kind-word RELEASE d (omega arith))
 
 module _ (f : ℕ → ℕ) where
-  action-renamed : (a : Action) → deviceOf a < 16 → renamedWord f (actionWord a) ≡ actionWord (renamed f a)
-  unfolding renamedWord actionWord renamed deviceOf
-  action-renamed (claim d) h = rw (kind-word CLAIM d (omega arith), field-word CLAIM d (omega arith))
-  action-renamed (release d) h = rw (kind-word RELEASE d (omega arith), field-word RELEASE d (omega arith))
+  action-renamed : (a : Action) → FitsWord a → renamedWord f (actionWord a) ≡ actionWord (renamed f a)
+  unfolding renamedWord
+  action-renamed a h = rw (ne-eqb (kindOf (actionWord a)) TASK (no-task a h), action-back a h)
 
-  actions-renamed : (task : Task) → Each (λ a. deviceOf a < 16) task → map (renamedWord f) (map actionWord task) ≡ map actionWord (map (renamed f) task)
+  actions-renamed : (task : Task) → Each FitsWord task → map (renamedWord f) (map actionWord task) ≡ map actionWord (map (renamed f) task)
   actions-renamed [] h = refl
   actions-renamed (a ∷ task) h = rw (action-renamed a (h .0), actions-renamed task (h .1))
 
@@ -32,19 +38,17 @@ module _ (f : ℕ → ℕ) where
 
 -- a word that names a device names one of 16
 abbrev NamesOne : ℕ → Type 0
-NamesOne w = (kindOf w ≡ TASK → ⊥) → fieldOf w < 16
+NamesOne w = (kindOf w ≡ TASK → ⊥) → deviceOf (actionOf w) < 16
 
-action-names : (a : Action) → deviceOf a < 16 → NamesOne (actionWord a)
-unfolding actionWord deviceOf
-action-names (claim d) h k = rw (field-word CLAIM d (omega arith)) h
-action-names (release d) h k = rw (field-word RELEASE d (omega arith)) h
+action-names : (a : Action) → FitsWord a → NamesOne (actionWord a)
+action-names a h k = rw (action-back a h) (h .0)
 
 words-names : (tasks : List Task) → Small tasks → Each NamesOne (taskWords tasks)
 unfolding taskWords
 words-names [] h = tt
 words-names (task ∷ tasks) h =
     each-append NamesOne (word TASK 0 ∷ map actionWord task) (taskWords tasks)
-    ((λ k. absurd (k refl)), each-map (λ a. deviceOf a < 16) NamesOne actionWord action-names task (h .0))
+    ((λ k. absurd (k refl)), each-map FitsWord NamesOne actionWord action-names task (h .0))
     (words-names tasks (h .1))
 
 pub words-named : (tasks : List Task) → Small tasks → Named (taskWords tasks)

@@ -5,13 +5,14 @@ use mathlib.Core.Bool.{cond}
 use mathlib.Core.List.{List}
 use lib.ListN.{length}
 use lib.Dec.{eqb}
-use Rattle.model.specs.Set.{at}
-use Rattle.model.specs.Layout.{word, kindOf, fieldOf, TASK}
+use Rattle.model.specs.Set.{deviceOf, at}
+use Rattle.model.specs.Layout.{kindOf, TASK, actionWord, actionOf}
+use Rattle.model.specs.Clean.{renamed}
 
 -- a TASK stays; an action names the device by its new number
 unfoldable pub renamedWord : (ℕ → ℕ) → ℕ → ℕ
-renamedWord f w = cond (eqb (kindOf w) TASK) w (word (kindOf w) (f (fieldOf w)))
+renamedWord f w = cond (eqb (kindOf w) TASK) w (actionWord (renamed f (actionOf w)))
 
 -- each word but TASK names one of 16 devices
 abbrev pub Named : List ℕ → Type 0
-Named ws = (i : ℕ) → i < length ws → (kindOf (at ws i) ≡ TASK → ⊥) → fieldOf (at ws i) < 16
+Named ws = (i : ℕ) → i < length ws → (kindOf (at ws i) ≡ TASK → ⊥) → deviceOf (actionOf (at ws i)) < 16

@@ -83,5 +83,5 @@ module _ {words : List ℕ} {shape : Shape} {s : Set} (d : Declares words shape 
   weight-small t h = rw (weight-at t h) (omega (arith, size-drop-le (suc t) (lengthsOf s), d .well-formed .grid))
 
   -- each task is as it should be
-  pub good-task : (t : ℕ) → t < shape .tasks → GoodTask (length (s .capacities)) (taskAt s t)
+  pub good-task : (t : ℕ) → t < shape .tasks → GoodTask (s .capacities) (taskAt s t)
   good-task t h = d .well-formed .each-task t (omega (arith, tasks-are))

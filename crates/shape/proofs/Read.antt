@@ -4,32 +4,22 @@ use mathlib.Core.Path.{_≡_, refl, sym, ap, _∙_}
 use mathlib.Core.List.{List, [], _∷_, _++_, map, append-assoc}
 use native.Mathlib.Nat.{not-suc-le-zero}
 use native.Mathlib.Omega.{arith}
-use borrow.Author.Tests.{ltb-true, ltb-false, eq-eqb, ne-eqb}
+use borrow.Author.Tests.{ltb-true, ltb-false}
 use lib.Dec.{ltb}
 use lib.ListN.{length, getD, length-append, length-map, List·getD-append, List·getD-eq-default}
 use lib.Seq.{getD-append-add}
-use Rattle.model.specs.Set.{Action, claim, release, deviceOf, Task, Set, at, actionAt}
-use Rattle.model.specs.Layout.{word, kindOf, fieldOf, DEVICE, TASK, END, actionWord, actionOf, taskWords, body, withEnd, encode, WellFormed}
+use Rattle.model.specs.Set.{claim, Task, Set, taskAt, at, actionAt}
+use Rattle.model.specs.Layout.{word, DEVICE, TASK, END, actionWord, actionOf, taskWords, body, withEnd, encode, WellFormed}
 use Rattle.model.specs.Answer.{given}
 use Rattle.model.specs.Read.{read}
 use Rattle.model.proofs.Bools.{by-bool}
 use Rattle.model.proofs.Lists.{map-at}
+use Rattle.model.proofs.Each.{Each, each-at}
+use Rattle.model.proofs.Words.{FitsWord, all-fit, action-back}
 use Rattle.model.proofs.ReadExact.{read-sound}
 use Rattle.shape.specs.ShapeOf.{startsFrom, shapeOf}
 use Rattle.shape.specs.Declares.{Declares}
 use Rattle.shape.proofs.Padded.{padded-at}
-
--- the word of an action read back
-action-read : (a : Action) → deviceOf a < 16 → actionOf (actionWord a) ≡ a
-unfolding actionOf actionWord deviceOf
-action-read (claim d) h =
-    let k : kindOf (actionWord (claim d)) ≡ 3 = omega arith in
-    let f : fieldOf (actionWord (claim d)) ≡ d = omega arith in
-    rw (eq-eqb _ _ k, f)
-action-read (release d) h =
-    let k : kindOf (actionWord (release d)) ≡ 4 = omega arith in
-    let f : fieldOf (actionWord (release d)) ≡ d = omega arith in
-    rw (ne-eqb (kindOf (actionWord (release d))) 3 (λ e. omega arith), f)
 
 -- as many starts as tasks
 pub length-starts : (n : ℕ) (tasks : List Task) → length (startsFrom n tasks) ≡ length tasks
@@ -39,7 +29,7 @@ length-starts n (task ∷ tasks) = ap suc (length-starts (n + 1 + length task) t
 
 -- where task t's actions stand: p words past its start
 action-from : (before after : List ℕ) (tasks : List Task) (t p : ℕ) → p < length (getD tasks t [])
-    → at (before ++ (taskWords tasks ++ after)) (at (startsFrom (length before) tasks) t + p) ≡ actionWord (getD (getD tasks t []) p (claim 0))
+    → at (before ++ (taskWords tasks ++ after)) (at (startsFrom (length before) tasks) t + p) ≡ actionWord (getD (getD tasks t []) p (claim 0 0))
 unfolding taskWords startsFrom
 action-from before after [] t p k = absurd (not-suc-le-zero k)
 action-from before after (u ∷ us) zero p k =
@@ -47,7 +37,7 @@ action-from before after (u ∷ us) zero p k =
     rw (there, getD-append-add before _ (suc p) 0)
     (ap (λ (l : List ℕ). at l p) (append-assoc (map actionWord u) (taskWords us) after)
     ∙ List·getD-append (map actionWord u) (taskWords us ++ after) 0 p (rw (length-map {B = ℕ} u actionWord) k)
-    ∙ map-at actionWord u p (claim 0) k)
+    ∙ map-at actionWord u p (claim 0 0) k)
 action-from before after (u ∷ us) (suc t) p k =
     let task = word TASK 0 ∷ map actionWord u in
     let longer : length (before ++ task) ≡ length before + 1 + length u = simp (length-append, length-map) (omega arith) in
@@ -66,11 +56,11 @@ parts : (s : Set) → encode s ≡ map (word DEVICE) (s .capacities) ++ (taskWor
 unfolding withEnd body
 parts s = append-assoc (map (word DEVICE) (s .capacities)) (taskWords (s .tasks)) (word END (length (body s)) ∷ [])
 
--- an action names one of at most 16 devices
-named : (s : Set) → WellFormed s → (t p : ℕ) → p < length (getD (s .tasks) t []) → deviceOf (actionAt s t p) < 16
-named s w t p k =
+-- an action by its place
+fits : (s : Set) → WellFormed s → (t p : ℕ) → p < length (getD (s .tasks) t []) → FitsWord (actionAt s t p)
+fits s w t p k =
     by-bool (ltb t (length (s .tasks)))
-    (λ e. omega (arith, w .each-task t (ltb-true t (length (s .tasks)) e) .declared p k, w .devices))
+    (λ e. each-at FitsWord (claim 0 0) (taskAt s t) (each-at (Each FitsWord) [] (s .tasks) (all-fit s w) t (ltb-true t (length (s .tasks)) e)) p k)
     (λ e. absurd (not-suc-le-zero (rw (List·getD-eq-default (s .tasks) [] (ltb-false t (length (s .tasks)) e)) at k)))
 
 -- the words of a well-formed set declare it
@@ -85,7 +75,7 @@ declares s w =
       well-formed = w;
       shaped = refl;
       inside = λ t p k. rw (start t, parts s) (simp (length-append, length-map) (omega (arith, start-inside (length cs) ts t p k)));
-      action = λ t p k. ap actionOf (word-at t p k) ∙ action-read (actionAt s t p) (named s w t p k);
+      action = λ t p k. ap actionOf (word-at t p k) ∙ action-back (actionAt s t p) (fits s w t p k);
     }
 
 -- accepted words declare the set that was read

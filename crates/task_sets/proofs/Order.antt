@@ -11,15 +11,15 @@ use lib.Dec.{eqb, ltb}
 use borrow.Author.Tests.{ltb-true, eqb-true, lt-ltb, eq-eqb, not-false}
 use Rattle.model.specs.Below.{any}
 use Rattle.model.specs.Set.{at}
-use Rattle.model.specs.Forbidden.{choose}
-use Rattle.model.specs.TaskTable.{maskOf, masksFrom, table}
+use Rattle.model.specs.Forbidden.{choose, setsFrom}
+use Rattle.model.specs.TaskTable.{maskOf, table}
 use Rattle.model.proofs.Bools.{by-cases, true-not-false, and-true, or-true, or-right, any-false}
 use Rattle.model.proofs.TableOrder.{table-length}
 use Rattle.task_sets.specs.Order.{tasksFrom, tasksOf, listBefore, setBefore, occurs}
 
 -- each mask from 1 to 255
 all-once : any 255 (λ k. not (eqb (occurs (suc k) table) 1)) ≡ false
-unfolding any occurs table masksFrom maskOf choose
+unfolding any occurs table maskOf setsFrom choose
 all-once = refl
 
 pub each-once : (m : ℕ) → 0 < m → m < 256 → occurs m table ≡ 1
@@ -94,7 +94,7 @@ in-order [] r i j h k = absurd (omega arith)
 in-order (a ∷ l) r i j h k = ordered a l r i j h k
 
 table-rises : neighbours table ≡ true
-unfolding neighbours rising setBefore listBefore tasksFrom table masksFrom maskOf choose
+unfolding neighbours rising setBefore listBefore tasksFrom table maskOf setsFrom choose
 table-rises = refl
 
 pub table-in-order : (i j : ℕ) → i < j → j < 255 → setBefore (at table i) (at table j) ≡ true

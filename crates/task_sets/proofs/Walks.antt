@@ -10,8 +10,8 @@ use lib.ListN.{length}
 use borrow.Author.Tests.{lt-ltb, le-ltb, eqb-true, eqb-false, ltb-true, not-false}
 use Rattle.model.specs.Below.{any}
 use Rattle.model.specs.Set.{at}
-use Rattle.model.specs.Forbidden.{choose}
-use Rattle.model.specs.TaskTable.{maskOf, masksFrom, table}
+use Rattle.model.specs.Forbidden.{choose, setsFrom}
+use Rattle.model.specs.TaskTable.{maskOf, table}
 use Rattle.model.proofs.Bools.{by-bool, by-cases, and-true, or-true, any-false}
 use Rattle.task_sets.specs.Order.{tasksOf, listBefore, setBefore}
 use Rattle.task_sets.specs.Next.{follow, after, next, run, Walk}
@@ -62,7 +62,7 @@ gap-found m before gap (n, e, b, f) h =
 
 -- the whole run at once, by computing it
 pub walk : Walk
-unfolding run after follow table masksFrom maskOf choose
+unfolding run after follow table maskOf setsFrom choose
 walk = record { whole = refl; ends = refl }
 
 -- each set of a run is worked out from the one before
@@ -80,7 +80,7 @@ pub table-next : (k : ℕ) → k < 254 → at table (k + 1) ≡ next (at table k
 table-next k h = rw (walk .whole) at (run-next 255 k 1 (omega arith))
 
 bytes : any 255 (λ k. not (ltb (at table k) 256)) ≡ false
-unfolding any table masksFrom maskOf choose
+unfolding any table maskOf setsFrom choose
 bytes = refl
 
 -- the tasks of a set of the table, counted both ways

@@ -1,8 +1,8 @@
-// The non-empty sets of eight tasks, each worked out from the one before, and the test of a set's size. A set is a mask with bit i for task i.
+// The non-empty sets of eight tasks, each worked out from the one before, and the tests of a set's size. A set is a mask with bit i for task i.
 ghost use mathlib.Core.Path.{_≡_};
-ghost use Prim.Native.Nat.{ℕ, _+_, _-_, _^_, _<_};
+ghost use Prim.Native.Nat.{ℕ, _+_, _-_, _*_, _^_, _≤_, _<_};
 ghost use lib.Count.{ones};
-ghost use lib.Dec.{eqb, ltb};
+ghost use lib.Dec.{ltb};
 ghost use Rattle.task_sets.specs.Next.{follow, next};
 
 // How many task sets there are.
@@ -54,14 +54,22 @@ pub fn next_set(mask: u8) -> u8
     follow(before, gap)
 }
 
-// Whether a set has one task more than the capacity.
-pub fn exceeds_by_one(mask: u8, capacity: u8) -> bool
-    ensures { λ r. ⌜ r ≡ eqb (ones mask) (capacity + 1) ⌝ }
+// How many tasks a set has.
+pub fn task_count(mask: u8) -> usize
+    ensures { λ r. ⌜ r ≡ ones mask ⌝ }
 {
-    u32::count_ones(mask as u32) == capacity as u32 + 1
+    u32::count_ones(mask as u32) as usize
 }
 
-// Whether it has more than that.
+// Whether so many tasks can exceed the capacity, where each takes at most `most` units.
+pub fn can_exceed(tasks: usize, most: u8, capacity: u8) -> bool
+    requires { ⌜ tasks ≤ 8 ⌝ }
+    ensures { λ r. ⌜ r ≡ ltb capacity (tasks * most) ⌝ }
+{
+    (capacity as usize) < tasks * most as usize
+}
+
+// Whether a set has more tasks than the capacity and one: then a hold can always be spared, since each has a unit.
 pub fn exceeds_by_more(mask: u8, capacity: u8) -> bool
     ensures { λ r. ⌜ r ≡ ltb (capacity + 1) (ones mask) ⌝ }
 {

@@ -153,7 +153,7 @@ fn told_box(plan: Plan, index: usize, positions: Positions, in_text: bool) -> St
     // How many boxes of its kind these words have.
     let count = |words| Plan::new(words).boxes().filter(|other| is_forbidden(other.kind) == is_forbidden(plan_box.kind)).count();
     let (kind, what) = match plan_box.kind {
-        BoxKind::Forbidden { device } => ("forbidden", format!("device {device} would have too many holders")),
+        BoxKind::Forbidden { device } => ("forbidden", format!("device {device} would have more units held than it has")),
         BoxKind::Unsafe => ("unsafe", "the tasks can no longer all finish".to_string()),
     };
     let (number, all, place) = (count(&plan.words()[..index]) + 1, count(plan.words()), place_of(index, in_text));

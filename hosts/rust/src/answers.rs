@@ -44,7 +44,7 @@ pub enum BidAnswer {
     Granted,
     /// The task has no action left.
     Finished,
-    /// The task waits and asks again later: its next action names a device that is in use.
+    /// The task waits and asks again later: its next action claims more units of a device than are free.
     Busy {
         /// The device's number.
         device: usize,
@@ -90,7 +90,7 @@ impl fmt::Display for BidAnswer {
 #[must_use = "it is all that the question was for"]
 #[derive(Clone, Copy, Debug, PartialEq, Eq, Hash)]
 pub enum Location {
-    /// A forbidden box holds it: a device has too many holders there.
+    /// A forbidden box holds it: more units of a device are held there than it has.
     Forbidden {
         /// The index of the box's first word; [`Plan::box_at`](crate::Plan::box_at) has the box.
         index: usize,

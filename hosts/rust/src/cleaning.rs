@@ -1,7 +1,7 @@
 //! Sets that were stored with devices which no task claims, and are now refused with 24 (`docs/SCOPE.md`, "Cleaner").
 
 use crate::sys;
-use crate::words::{field_of, kind_of};
+use crate::words::{claimed_device, kind_of};
 #[cfg(feature = "alloc")]
 use {
     crate::{plain, Refused},
@@ -23,7 +23,7 @@ use {
 ///
 /// # Errors
 ///
-/// Refusals 1 to 12, by the rules that had no 24.
+/// Refusals 1 to 12 and 28, by the rules that had no 24.
 ///
 /// # Panics
 ///
@@ -47,5 +47,5 @@ pub fn cleaned(set: &[u32]) -> Result<Vec<u32>, Refused> {
 /// assert_eq!(kept, ["radio", "pager"]);
 /// ```
 pub fn is_claimed(set: &[u32], device: usize) -> bool {
-    set.iter().any(|&word| kind_of(word) == sys::CLAIM && field_of(word) == device)
+    set.iter().any(|&word| kind_of(word) == sys::CLAIM && claimed_device(word) == device)
 }

@@ -19,7 +19,7 @@
 //! let settings = Settings::new(1, 2);
 //!
 //! assert_eq!(service.bid(0, settings)?, BidAnswer::Granted);
-//! assert_eq!(service.state().last_action(0), Some(Action::Claim { device: 0 }));
+//! assert_eq!(service.state().last_action(0), Some(Action::Claim { device: 0, units: 1 }));
 //! assert_eq!(service.bid(1, settings)?, BidAnswer::Held { rank: 6 });
 //! // Its share is spent, but nobody else can go on. With this grant the window is over.
 //! assert_eq!(service.bid(0, settings)?, BidAnswer::Granted);
@@ -117,7 +117,7 @@ pub enum Refusal {
     UnknownKind = sys::UNKNOWN_KIND,
     /// A DEVICE after a TASK, or a CLAIM, RELEASE or END before any; the place is the word's index.
     OutOfOrder = sys::OUT_OF_ORDER,
-    /// A word's field isn't allowed; the place is its index.
+    /// A word's field isn't allowed; the place is its index. In a CLAIM that is a device which isn't declared, or a bit from 27 to 24.
     FieldNotAllowed = sys::FIELD_NOT_ALLOWED,
     /// The 17th device, the 9th task or the 256th action of a task; the place is the word's index.
     TooMany = sys::TOO_MANY,
@@ -161,11 +161,13 @@ pub enum Refusal {
     BadSetting = sys::BAD_SETTING,
     /// A trial's order is empty, and the place is 0; or the place is the first in it that names a task which the set doesn't have, or is 255, which no order has.
     BadOrder = sys::BAD_ORDER,
+    /// A claim of more units than the device has; the place is the word's index. Looked at before [`ClaimOfHeld`](Refusal::ClaimOfHeld).
+    TooManyUnits = sys::TOO_MANY_UNITS,
 }
 
 impl Refusal {
     /// All refusals by rising number, from 1.
-    pub const ALL: [Refusal; 27] = [
+    pub const ALL: [Refusal; 28] = [
         Refusal::NoWords,
         Refusal::TooManyWords,
         Refusal::WordAfterEnd,
@@ -193,6 +195,7 @@ impl Refusal {
         Refusal::CleanTooShort,
         Refusal::BadSetting,
         Refusal::BadOrder,
+        Refusal::TooManyUnits,
     ];
 
     /// The refusal's number in `docs/SCOPE.md`, "Refusals"; `TryFrom<u8>` goes the other way.
@@ -209,7 +212,7 @@ impl Refusal {
             Refusal::UnknownKind => "this word is no DEVICE, TASK, CLAIM, RELEASE or END: its kind isn't 1 to 5",
             Refusal::OutOfOrder => "this word is out of order: devices come first, and a TASK before any CLAIM, RELEASE or END",
             Refusal::FieldNotAllowed => {
-                "the field isn't allowed: a capacity is 1 to 8, TASK has 0, an action names a declared device, END counts the words before it"
+                "the field isn't allowed: a capacity is 1 to 8, TASK has 0, an action names a declared device, only a CLAIM has units, END counts the words before it"
             }
             Refusal::TooMany => "this is one too many: a set has at most 16 devices and 8 tasks, a task at most 255 claims and releases",
             Refusal::ClaimOfHeld => "the task claims a device that it holds already",
@@ -236,6 +239,7 @@ impl Refusal {
             Refusal::CleanTooShort => "the cleaned set has more words than its slice",
             Refusal::BadSetting => "the share or the window is outside 1 to 255",
             Refusal::BadOrder => "the order of a trial is empty, names a task here that the set doesn't have, or goes on after 255 tasks",
+            Refusal::TooManyUnits => "the task claims more units than the device has: claim fewer, or give the device a larger capacity",
         }
     }
 }

@@ -46,7 +46,7 @@ pub const NOT_ANALYSED: u8 = 0xFF;
 ///
 /// # Errors
 ///
-/// Refusals 1 to 12 and 24, which are the set's.
+/// Refusals 1 to 12, 24 and 28, which are the set's.
 ///
 /// # Panics
 ///
@@ -70,7 +70,7 @@ pub fn read(set: &[u32]) -> Result<usize, Refused> {
 ///
 /// # Errors
 ///
-/// Refusals 1 to 14 and 24. 14 leaves the finished map, and zeros in the whole plan slice; the others leave both slices untouched. At 14 too nothing is told of
+/// Refusals 1 to 14, 24 and 28. 14 leaves the finished map, and zeros in the whole plan slice; the others leave both slices untouched. At 14 too nothing is told of
 /// how much is unsafe: a host that goes on without the plan, and wants to know, counts the map's bytes.
 ///
 /// # Panics
@@ -91,7 +91,7 @@ pub fn analyse(set: &[u32], map: &mut [u8], plan: &mut [u32]) -> Result<Planned,
 ///
 /// # Errors
 ///
-/// Refusals 1 to 13, 16, 17, 18, 24 and 26. 16 comes also if the record's counts together, [`Record::window_grants`], aren't less than the window.
+/// Refusals 1 to 13, 16, 17, 18, 24, 26 and 28. 16 comes also if the record's counts together, [`Record::window_grants`], aren't less than the window.
 ///
 /// # Panics
 ///
@@ -115,7 +115,7 @@ pub fn bid(record: &mut Record, set: &[u32], map: &[u8], task: usize, settings: 
 ///
 /// # Errors
 ///
-/// Refusals 1 to 12, 16, 19 and 24, which change nothing.
+/// Refusals 1 to 12, 16, 19, 24 and 28, which change nothing.
 ///
 /// # Panics
 ///
@@ -137,7 +137,7 @@ pub fn again(record: &mut Record, set: &[u32]) -> Result<(), Refused> {
 ///
 /// # Errors
 ///
-/// Refusals 1 to 13, 16, 18, 20, 21 and 24, which fill the whole slice with [`sys::NO_STEP`].
+/// Refusals 1 to 13, 16, 18, 20, 21, 24 and 28, which fill the whole slice with [`sys::NO_STEP`].
 ///
 /// # Panics
 ///
@@ -180,7 +180,7 @@ pub fn locate(positions: Positions, plan: &[u32], tasks: usize) -> Result<Locati
 /// sets that were stored before such devices were refused, and takes them as they were taken then.
 ///
 /// A slice as long as the set is always long enough. The words beyond the cleaned set keep what they had. What is written is accepted by [`read`], with as many
-/// states, and its map is the old set's byte for byte; a set that has no such device comes back word for word.
+/// states, and its map is the old set's byte for byte, each claim has its units; a set that has no such device comes back word for word.
 ///
 /// ```
 /// use arbiter::{plain, Refusal, Refused};
@@ -197,7 +197,7 @@ pub fn locate(positions: Positions, plan: &[u32], tasks: usize) -> Result<Locati
 ///
 /// # Errors
 ///
-/// Refusals 1 to 12, by the rules that had no 24, and 25. They leave the slice untouched.
+/// Refusals 1 to 12 and 28, by the rules that had no 24, and 25. They leave the slice untouched.
 ///
 /// # Panics
 ///
@@ -243,7 +243,7 @@ pub fn clean(set: &[u32], clean: &mut [u32]) -> Result<usize, Refused> {
 ///
 /// # Errors
 ///
-/// Refusals 1 to 13, 24, 26 and 27, whatever the rounds are; and 16 and 18 where a bid is refused, which ends the trial: both only for a map that isn't the set's own.
+/// Refusals 1 to 13, 24, 26, 27 and 28, whatever the rounds are; and 16 and 18 where a bid is refused, which ends the trial: both only for a map that isn't the set's own.
 /// None of them leaves anything of what was counted before.
 ///
 /// # Panics

@@ -13,7 +13,7 @@ pub struct Plan<'a> {
 /// What is wrong with the states of a box.
 #[derive(Clone, Copy, Debug, PartialEq, Eq, Hash)]
 pub enum BoxKind {
-    /// In each of them a device has too many holders.
+    /// In each of them more units of a device are held than it has.
     Forbidden {
         /// The device's number.
         device: usize,

@@ -1,18 +1,32 @@
 //! What stands in a set (`docs/SCOPE.md`, "Sets").
 
-use crate::words::{field_of, kind_of};
+use crate::words::{claimed_device, claimed_units, field_of, kind_of};
 use crate::{plain, sys, Positions, Refused, State};
 use core::fmt;
 
 /// One action of a task.
+///
+/// ```
+/// use arbiter::{Action, Set};
+///
+/// // A gateway of two channels. A radio patch takes both together, which is one extra unit, and a call takes one.
+/// let words = [0x10000002, 0x20000000, 0x30010000, 0x40000000, 0x20000000, 0x30000000, 0x40000000, 0x50000007];
+/// let set = Set::read(&words)?;
+/// assert_eq!(set.actions(0).next(), Some(Action::Claim { device: 0, units: 2 }));
+/// assert_eq!(set.actions(1).next(), Some(Action::Claim { device: 0, units: 1 }));
+/// assert_eq!(set.actions(0).last(), Some(Action::Release { device: 0 }));
+/// # Ok::<(), arbiter::Refused>(())
+/// ```
 #[derive(Clone, Copy, Debug, PartialEq, Eq, Hash)]
 pub enum Action {
-    /// The task takes the device.
+    /// The task takes units of the device, all of them together.
     Claim {
         /// The device's number.
         device: usize,
+        /// How many units it takes, 1 to the device's capacity.
+        units: usize,
     },
-    /// The task gives the device back.
+    /// The task gives back all units of the device that it holds.
     Release {
         /// The device's number.
         device: usize,
@@ -23,14 +37,14 @@ impl Action {
     /// The device that is taken or given back.
     pub fn device(self) -> usize {
         match self {
-            Action::Claim { device } | Action::Release { device } => device,
+            Action::Claim { device, .. } | Action::Release { device } => device,
         }
     }
 
     /// The action that a set's word says, if it says one.
     fn of_word(word: u32) -> Option<Action> {
         match kind_of(word) {
-            sys::CLAIM => Some(Action::Claim { device: field_of(word) }),
+            sys::CLAIM => Some(Action::Claim { device: claimed_device(word), units: claimed_units(word) }),
             sys::RELEASE => Some(Action::Release { device: field_of(word) }),
             _ => None,
         }
@@ -40,7 +54,8 @@ impl Action {
 impl fmt::Display for Action {
     fn fmt(&self, to: &mut fmt::Formatter<'_>) -> fmt::Result {
         match self {
-            Action::Claim { device } => write!(to, "claims device {device}"),
+            Action::Claim { device, units: 1 } => write!(to, "claims device {device}"),
+            Action::Claim { device, units } => write!(to, "claims {units} units of device {device}"),
             Action::Release { device } => write!(to, "releases device {device}"),
         }
     }
@@ -59,7 +74,7 @@ impl<'a> Set<'a> {
     ///
     /// # Errors
     ///
-    /// Refusals 1 to 12 and 24.
+    /// Refusals 1 to 12, 24 and 28.
     ///
     /// # Panics
     ///
@@ -73,7 +88,7 @@ impl<'a> Set<'a> {
     ///
     /// # Errors
     ///
-    /// Refusals 1 to 12, by the rules that had no 24, and 25. They leave the slice untouched.
+    /// Refusals 1 to 12 and 28, by the rules that had no 24, and 25. They leave the slice untouched.
     ///
     /// # Panics
     ///
@@ -103,7 +118,7 @@ impl<'a> Set<'a> {
         self.capacities().count()
     }
 
-    /// How many tasks may hold each device at once, from device 0 on.
+    /// How many units each device has, from device 0 on: so many tasks may hold it at once, if each claims one.
     pub fn capacities(self) -> impl Iterator<Item = usize> + 'a {
         self.words.iter().take_while(|&&word| kind_of(word) == sys::DEVICE).map(|&word| field_of(word))
     }

@@ -60,7 +60,20 @@ impl<'a> State<'a> {
 
     /// Whether the task holds the device.
     pub fn holds(self, task: usize, device: usize) -> bool {
-        self.done(task).filter(|action| action.device() == device).last() == Some(Action::Claim { device })
+        self.units(task, device) > 0
+    }
+
+    /// How many units of the device the task holds; 0 if it doesn't hold it.
+    pub fn units(self, task: usize, device: usize) -> usize {
+        match self.done(task).filter(|action| action.device() == device).last() {
+            Some(Action::Claim { units, .. }) => units,
+            Some(Action::Release { .. }) | None => 0,
+        }
+    }
+
+    /// How many units of the device are held, by all tasks together. In service they are never more than its capacity.
+    pub fn units_in_use(self, device: usize) -> usize {
+        (0..self.set.tasks()).map(|task| self.units(task, device)).sum()
     }
 
     /// The tasks that hold the device, by rising number.

@@ -112,7 +112,7 @@ extern "C" {
 }
 
 // The version that this interface is of, and the library must be: major times 10,000, minor times 100, patch.
-pub const VERSION: u32 = 50100;
+pub const VERSION: u32 = 60000;
 
 // The kinds of an answer. A zeroed answer is a refusal.
 pub const REFUSED: u32 = 0; // value: the refusal's place
@@ -121,7 +121,7 @@ pub const PLANNED: u32 = 2; // value: the number of plan words; the parts per th
 pub const ROUTED: u32 = 3; // value: the route's length
 pub const GRANTED: u32 = 4;
 pub const FINISHED: u32 = 5;
-pub const BUSY: u32 = 6; // value: the device that the next action names
+pub const BUSY: u32 = 6; // value: the device that the next action names, without its units
 pub const HELD: u32 = 7; // value: the next state's rank
 pub const RESTARTED: u32 = 8;
 pub const IN_FORBIDDEN_BOX: u32 = 9; // value: the index of the box's first word
@@ -148,10 +148,14 @@ pub const MAX_ORDER: usize = 255;
 // A word is its kind times this, plus its field.
 pub const FIELDS: u32 = 0x1000_0000;
 
+// A CLAIM's field is its extra units, a number less than EXTRA_UNITS, times DEVICES, plus its device.
+pub const DEVICES: u32 = 0x1_0000;
+pub const EXTRA_UNITS: u32 = 0x100;
+
 // The kinds of a set's words; a plan ends with END too.
 pub const DEVICE: u32 = 1;
 pub const TASK: u32 = 2;
-pub const CLAIM: u32 = 3;
+pub const CLAIM: u32 = 3; // bits 23 to 16 of the field: the extra units, 0 for one unit; 15 to 0: the device
 pub const RELEASE: u32 = 4;
 pub const END: u32 = 5;
 
@@ -171,7 +175,7 @@ pub const DEAD: u8 = 3;
 // What a refused route leaves in every byte of its slice.
 pub const NO_STEP: u8 = 255;
 
-// The refusals of a set. UNCLAIMED_DEVICE comes before GRID_TOO_LARGE.
+// The refusals of a set. UNCLAIMED_DEVICE comes before GRID_TOO_LARGE, TOO_MANY_UNITS before CLAIM_OF_HELD.
 pub const NO_WORDS: u8 = 1;
 pub const TOO_MANY_WORDS: u8 = 2;
 pub const WORD_AFTER_END: u8 = 3;
@@ -185,6 +189,7 @@ pub const STILL_HELD: u8 = 10;
 pub const NO_END: u8 = 11;
 pub const GRID_TOO_LARGE: u8 = 12;
 pub const UNCLAIMED_DEVICE: u8 = 24;
+pub const TOO_MANY_UNITS: u8 = 28;
 
 // The refusals of lent slices, input bytes, records and calls.
 pub const MAP_TOO_SHORT: u8 = 13;

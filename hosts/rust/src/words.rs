@@ -16,6 +16,16 @@ pub(crate) fn field_of(word: u32) -> usize {
     (word % sys::FIELDS) as usize
 }
 
+/// The device that a CLAIM takes: bits 15 to 0. Of a RELEASE it is the whole field.
+pub(crate) fn claimed_device(word: u32) -> usize {
+    (word % sys::DEVICES) as usize
+}
+
+/// How many units a CLAIM takes: one, and as many extra ones as bits 23 to 16 say.
+pub(crate) fn claimed_units(word: u32) -> usize {
+    (word / sys::DEVICES % sys::EXTRA_UNITS) as usize + 1
+}
+
 /// The words in a set file: four bytes a word, lowest first. No bytes are no words. Whether the words are a set is for whoever reads them next to say.
 ///
 /// # Errors

@@ -55,7 +55,7 @@ fn a_service_answers_example_b_and_tells_its_state() {
     let mut service = in_service(&A);
     let off = Settings::OFF;
     assert_eq!(service.bid(0, off), Ok(BidAnswer::Granted));
-    assert_eq!(service.state().last_action(0), Some(Action::Claim { device: 0 }));
+    assert_eq!(service.state().last_action(0), Some(Action::Claim { device: 0, units: 1 }));
     assert_eq!(service.bid(1, off), Ok(BidAnswer::Held { rank: 6 }));
     let state = service.analysed().set().state_of_rank(6).unwrap();
     assert_eq!(state.positions(), [1, 1, 0, 0, 0, 0, 0, 0]);

@@ -8,8 +8,8 @@ use arbiter::{
 use sets::{refused, A, D, E, PLAN, R, R_PLAN, STATES, STATES_OF_R, U, U_PLAN};
 use std::ops::RangeInclusive;
 
-const CLAIM_0: Action = Action::Claim { device: 0 };
-const CLAIM_1: Action = Action::Claim { device: 1 };
+const CLAIM_0: Action = Action::Claim { device: 0, units: 1 };
+const CLAIM_1: Action = Action::Claim { device: 1, units: 1 };
 const RELEASE_0: Action = Action::Release { device: 0 };
 const RELEASE_1: Action = Action::Release { device: 1 };
 
@@ -210,11 +210,11 @@ fn settings_are_kept_as_they_are_given() {
 #[test]
 fn refusals_have_numbers_both_ways() {
     let numbers: Vec<u8> = Refusal::ALL.iter().map(|refusal| refusal.number()).collect();
-    assert_eq!(numbers, (1..=27).collect::<Vec<u8>>());
+    assert_eq!(numbers, (1..=28).collect::<Vec<u8>>());
     for refusal in Refusal::ALL {
         assert_eq!(Refusal::try_from(refusal.number()), Ok(refusal));
     }
-    for number in [0, 28, 255] {
+    for number in [0, 29, 255] {
         assert_eq!(Refusal::try_from(number), Err(NoSuchRefusal(number)));
     }
 }
@@ -223,7 +223,7 @@ fn refusals_have_numbers_both_ways() {
 fn everything_prints_for_a_log() {
     let refused = Refused { refusal: Refusal::ClaimOfHeld, place: 3 };
     assert_eq!(refused.to_string(), "refused 8 at 3: the task claims a device that it holds already");
-    assert_eq!(NoSuchRefusal(28).to_string(), "no refusal has the number 28");
+    assert_eq!(NoSuchRefusal(29).to_string(), "no refusal has the number 29");
     let answers = [BidAnswer::Granted, BidAnswer::Finished, BidAnswer::Busy { device: 1 }, BidAnswer::Held { rank: 6 }, BidAnswer::ShareSpent];
     let told = ["granted", "finished", "waits for device 1", "held back from unsafe state 6", "waits, since its share is spent"];
     assert_eq!(answers.map(|answer| answer.to_string()), told);
@@ -231,7 +231,8 @@ fn everything_prints_for_a_log() {
     let locations = [Location::Forbidden { index: 3 }, Location::Unsafe { index: 6 }, Location::Neither];
     assert_eq!(locations.map(|location| location.to_string()), ["in forbidden box at 3", "in unsafe box at 6", "in no box"]);
     assert_eq!(locations.map(Location::text), ["in forbidden box", "in unsafe box", "in no box"]);
-    assert_eq!([CLAIM_0, RELEASE_1].map(|action| action.to_string()), ["claims device 0", "releases device 1"]);
+    let patch = Action::Claim { device: 0, units: 2 };
+    assert_eq!([CLAIM_0, patch, RELEASE_1].map(|action| action.to_string()), ["claims device 0", "claims 2 units of device 0", "releases device 1"]);
     let of_d = PerThousand { quotient: 153, remainder: 33 };
     assert_eq!(of_d.to_string(), "153 of every 1000 permitted states, remainder 33");
     let row = Tally { granted: 4, busy: 1, held: 2, share_spent: 3 };
@@ -242,6 +243,6 @@ fn everything_prints_for_a_log() {
 #[cfg(feature = "std")]
 #[test]
 fn what_is_refused_is_an_error() {
-    let errors: [Box<dyn std::error::Error>; 2] = [Box::new(Set::read(&[]).unwrap_err()), Box::new(NoSuchRefusal(28))];
-    assert_eq!(errors.map(|error| error.to_string()), ["refused 1 at 0: the set is empty", "no refusal has the number 28"]);
+    let errors: [Box<dyn std::error::Error>; 2] = [Box::new(Set::read(&[]).unwrap_err()), Box::new(NoSuchRefusal(29))];
+    assert_eq!(errors.map(|error| error.to_string()), ["refused 1 at 0: the set is empty", "no refusal has the number 29"]);
 }

@@ -8,7 +8,11 @@ fn device(capacity: usize) -> u32 {
 }
 const TASK: u32 = 0x2000_0000;
 fn claim(device: usize) -> u32 {
-    0x3000_0000 | device as u32
+    claim_of(1, device)
+}
+/// A claim of so many units, 1 to 256.
+fn claim_of(units: usize, device: usize) -> u32 {
+    0x3000_0000 | (units as u32 - 1) << 16 | device as u32
 }
 fn release(device: usize) -> u32 {
     0x4000_0000 | device as u32
@@ -53,15 +57,18 @@ pub fn many_crossings() -> Vec<u32> {
     words_of(&[1, 1], &[there, back])
 }
 
-/// How many kinds of refused lists `faulty` is asked for: the refusals 1 to 12.
-const FAULTS: u64 = 12;
+/// How many kinds of refused lists `faulty` is asked for: the refusals 1 to 12, and 28.
+const FAULTS: u64 = 13;
 
 const MOST_DEVICES: usize = 16;
+const MOST_TASKS: usize = 8;
+const MOST_CAPACITY: usize = 8;
+const MOST_UNITS: usize = 256; // that a claim can ask for, though no device has them
 
 /// The list of words of one input. Kinds take turns, so that a short run has all of them.
 pub fn words(random: &mut Random, input: u64) -> Vec<u32> {
-    let round = input / 18;
-    match input % 18 {
+    let round = input / 22;
+    match input % 22 {
         0..=3 => sized(random, &[12, 50, 200, 200, 600, 2000]),
         4 => few_devices(random),
         5 => {
@@ -84,7 +91,9 @@ pub fn words(random: &mut Random, input: u64) -> Vec<u32> {
             }
         }
         15 => limits(random, round),
-        _ => unclaimed(random, round),
+        16 | 17 => unclaimed(random, round),
+        18..=20 => in_units(random, round),
+        _ => damaged_units(random, round),
     }
 }
 
@@ -460,6 +469,165 @@ fn limits(random: &mut Random, round: u64) -> Vec<u32> {
     }
 }
 
+// --- Claims of several units ---
+
+/// Sets in which devices have several units, and claims take some of them, or all.
+fn in_units(random: &mut Random, round: u64) -> Vec<u32> {
+    let words = match round % 12 {
+        0 | 1 => crossing(random),
+        2 | 3 => few_devices(random),
+        4 => family(random, false),
+        5 => pocket(random),
+        6 if round % 72 == 6 => large(random),
+        6 => limits(random, round / 12),
+        7 => sized(random, &[12, 50, 200, 600]),
+        8 => return pool(random),
+        _ => return rivals(random),
+    };
+    with_units(random, &words)
+}
+
+/// Biased to unsafe boxes for which it counts which of a device's holders a task waits for. Three tasks wait in a ring: the first holds a device and wants many units of
+/// the pool, the second holds enough of the pool that the first must wait, and wants a device of the third; the third holds that one and some of the pool as well, which
+/// the first needn't wait for, and wants the first one's device. So the third is in the ring, but not for what it has of the pool. Others claim of the pool beside them.
+fn rivals(random: &mut Random) -> Vec<u32> {
+    const POOL: usize = 0;
+    const OF_FIRST: usize = 1;
+    const OF_THIRD: usize = 2;
+    const OWN: usize = 3; // the first device that tasks have for themselves
+    let capacity = random.between(3, MOST_CAPACITY);
+    let enough = random.between(1, capacity - 1);
+    let beside = random.between(1, capacity - enough);
+    let many = random.between(capacity - enough + 1, capacity);
+    let mut rings = vec![
+        vec![claim(OF_FIRST), claim_of(many, POOL)],
+        vec![claim_of(enough, POOL), claim(OF_THIRD)],
+        vec![claim(OF_THIRD), claim_of(beside, POOL), claim(OF_FIRST)],
+    ];
+    for _ in 0..random.pick(&[0, 0, 1, 1, 2]) {
+        rings.push(vec![claim_of(random.between(1, capacity), POOL)]);
+    }
+    let tasks = rings.len();
+    let mut lists: Vec<Vec<u32>> = Vec::new();
+    for (number, claims) in rings.into_iter().enumerate() {
+        let mut released: Vec<u32> = claims.iter().map(|word| release((word & 0xFFFF) as usize)).collect();
+        random.shuffle(&mut released);
+        let mut list = [claims, released].concat();
+        if tasks == 3 && random.one_in(3) {
+            let at = random.between(0, 2);
+            list.splice(at..at, [claim(OWN + number), release(OWN + number)]);
+        }
+        if random.one_in(8) {
+            list.swap(0, 1);
+        }
+        lists.push(list);
+    }
+    random.shuffle(&mut lists);
+    in_all_units(&[&[capacity, 1, 1], &vec![1; tasks][..]].concat(), &lists)
+}
+
+/// As `set_of`, for tasks whose claims have units.
+fn in_all_units(capacities: &[usize], tasks: &[Vec<u32>]) -> Vec<u32> {
+    let claims = |device: usize| tasks.iter().flatten().any(|word| word & 0xF000_FFFF == claim(device));
+    let kept: Vec<usize> = (0..capacities.len()).filter(|&device| claims(device)).collect();
+    let number = |word: &u32| kept.iter().position(|&device| device == (word & 0xFFFF) as usize).unwrap() as u32;
+    let renamed = |task: &Vec<u32>| task.iter().map(|word| word & 0xFFFF_0000 | number(word)).collect();
+    let capacities: Vec<usize> = kept.iter().map(|&device| capacities[device]).collect();
+    words_of(&capacities, &tasks.iter().map(renamed).collect::<Vec<Vec<u32>>>())
+}
+
+/// Many tasks that each claim and release one device, mostly few of its many units, so that forbidden boxes of few tasks and of many stand side by side.
+fn pool(random: &mut Random) -> Vec<u32> {
+    let tasks = random.between(3, MOST_TASKS);
+    let capacity = random.between(2, MOST_CAPACITY);
+    let most = random.pick(&[2, 2, 3, capacity]).min(capacity);
+    let task = |_| -> Vec<u32> {
+        let turns = if tasks < 5 { random.between(1, 3) } else { 1 };
+        (0..turns).flat_map(|_| [claim_of(random.between(1, most), 0), release(0)]).collect()
+    };
+    let lists: Vec<Vec<u32>> = (0..tasks).map(task).collect();
+    words_of(&[capacity], &lists)
+}
+
+/// The units of each claim of one device: any number; one or all; more than half, so that no two tasks hold it together; or the same for all.
+fn units_of_claims(random: &mut Random, capacity: usize, claims: usize) -> Vec<usize> {
+    let alike = random.between(1, capacity);
+    let how = random.below(6);
+    let units = |_| match how {
+        0..=2 => random.between(1, capacity),
+        3 => random.pick(&[1, capacity]),
+        4 => random.between(capacity / 2 + 1, capacity),
+        _ => alike,
+    };
+    (0..claims).map(units).collect()
+}
+
+/// The list with other capacities, mostly above 1, and units for the claims of what it declares. Nothing else in it changes.
+fn with_units(random: &mut Random, words: &[u32]) -> Vec<u32> {
+    let mut list = words.to_vec();
+    for number in 0..declared(words) {
+        let capacity = random.pick(&[1, 2, 2, 2, 3, 3, 3, 4, 5, MOST_CAPACITY]);
+        list[number] = device(capacity);
+        let claims: Vec<usize> = (0..list.len()).filter(|&index| list[index] == claim(number)).collect();
+        for (&index, units) in claims.iter().zip(units_of_claims(random, capacity, claims.len())) {
+            list[index] = claim_of(units, number);
+        }
+    }
+    list
+}
+
+/// A list in which claims have several units, with one word that may not stand: units above the capacity, by one or by far, where another fault stands beside or
+/// not; units or other high bits in a RELEASE, or bits 27 to 24 in a CLAIM; a device of 16 bits that looks like a declared one when cut to 8 or to 4.
+fn damaged_units(random: &mut Random, round: u64) -> Vec<u32> {
+    let mut words = in_units(random, round / 8);
+    let of_kind = |words: &[u32], kind: u32| -> Vec<usize> { (0..words.len()).filter(|&index| words[index] >> 28 == kind).collect() };
+    let (claims, releases) = (of_kind(&words, 3), of_kind(&words, 4));
+    if claims.is_empty() || releases.is_empty() {
+        return words;
+    }
+    let (at, released_at) = (random.pick(&claims), random.pick(&releases));
+    let device = (words[at] & 0xFFFF) as usize;
+    match round % 8 {
+        0 => words[at] = too_many_units(random, &words, device),
+        1 => {
+            // Claimed again while it is held, with units that no capacity has: 28 comes before 8.
+            let again = too_many_units(random, &words, device);
+            words.insert(at + 1, again);
+        }
+        2 => words[at] = claim_of(MOST_UNITS, device),
+        3 => words[at] |= random.between(1, 15) as u32 * 0x0100_0000,
+        4 => words[released_at] |= random.pick(&[1, 2, 7, 0xFF, 0x100, 0xF00]) << 16,
+        5 => words[at] = words[at] & 0xFFFF_0000 | random.pick(&[declared(&words), 16, 16 + device, 0x100 + device, 0x8000 + device]) as u32,
+        6 => words = past_the_last_action(random),
+        _ => {
+            // Two claims of one device, each of which would do alone, before either is released.
+            let units = random.between(1, MOST_CAPACITY);
+            words.insert(at + 1, claim_of(units, device));
+        }
+    }
+    words
+}
+
+/// A claim of more units than the list's device has: by one, by a few, or as many as a word can say.
+fn too_many_units(random: &mut Random, words: &[u32], device: usize) -> u32 {
+    let capacity = words.get(device).map_or(0, |word| (word & 15) as usize);
+    claim_of(random.pick(&[capacity + 1, capacity + 1, capacity + 2, MOST_CAPACITY + 1, 128, MOST_UNITS]), device)
+}
+
+/// 255 actions, and a claim behind them that is one too many whatever its units are, of a device that is there or not.
+fn past_the_last_action(random: &mut Random) -> Vec<u32> {
+    let mut words = words_of(&[2, 1], &[]);
+    words.pop();
+    words.push(TASK);
+    for i in 0..255 {
+        words.push(if i % 2 == 0 { claim_of(2, 0) } else { release(0) });
+    }
+    let units = random.pick(&[1, 2, 3, MOST_UNITS]);
+    words.push(random.pick(&[claim_of(units, 0), claim_of(units, 1), claim_of(units, 2), claim_of(units, 1) | 0x0100_0000]));
+    words.push(end(words.len()));
+    words
+}
+
 // --- Devices that no task claims ---
 
 /// Any list, good or bad, with such devices put in.
@@ -475,6 +643,7 @@ fn unclaimed(random: &mut Random, round: u64) -> Vec<u32> {
         7 => many_devices(random),
         _ => sized(random, &[12, 50, 200, 600]),
     };
+    let words = if random.one_in(3) { with_units(random, &words) } else { words };
     match unclaimed_places(random, &words) {
         None => words,
         Some(places) => with_unclaimed(random, &words, &places),
@@ -508,9 +677,14 @@ pub fn with_unclaimed(random: &mut Random, words: &[u32], places: &[usize]) -> V
         *last = end(words.len() - 1 + places.len());
     }
     for word in &mut list[devices..] {
-        let (kind, field) = (*word >> 28, (*word & 0x0FFF_FFFF) as usize);
-        if matches!(kind, 3 | 4) && field < devices {
-            *word = kind << 28 | own[field] as u32;
+        // A claim keeps its units; the field of a release is its device.
+        let named = match *word >> 28 {
+            3 => *word & 0xFFFF,
+            4 => *word & 0x0FFF_FFFF,
+            _ => continue,
+        };
+        if (named as usize) < devices {
+            *word = *word - named + own[named as usize] as u32;
         }
     }
     for &place in places {
@@ -532,8 +706,8 @@ fn odd_word(random: &mut Random, index: usize) -> u32 {
         0 => random.next() as u32,
         1 => (random.below(16) as u32) << 28 | random.below(20) as u32,
         2 => end(index),
-        3 => random.pick(&[TASK, device(1), device(9), claim(0), release(0), claim(15), claim(16), end(0)]),
-        4 => (random.between(1, 5) as u32) << 28 | random.pick(&[0x0FFF_FFFF, 0x0100_0000, 0x0001_0001, 0x100, 0x10]),
+        3 => random.pick(&[TASK, device(1), device(9), claim(0), release(0), claim(15), claim(16), end(0), claim_of(2, 0), claim_of(MOST_UNITS, 0)]),
+        4 => (random.between(1, 5) as u32) << 28 | random.pick(&[0x0FFF_FFFF, 0x0100_0000, 0x00FF_0000, 0x0001_0001, 0x100, 0x10]),
         _ => (random.between(1, 5) as u32) << 28 | random.below(4) as u32,
     }
 }
@@ -591,10 +765,13 @@ fn faulty(random: &mut Random, number: usize) -> Vec<u32> {
         6 => {
             let at = random.below(words.len());
             let high = random.pick(&[1 << 4, 1 << 8, 1 << 16, 1 << 24, 1 << 27]);
+            // In a claim bits 23 to 16 are units.
+            let high_of_claim = random.pick(&[1 << 4, 1 << 8, 1 << 15, 1 << 24, 1 << 27]);
             words[at] = match words[at] >> 28 {
                 1 => random.pick(&[device(0), device(9), device(16), words[at] | high]),
                 2 => TASK | random.pick(&[1, 2, high, 0x0FFF_FFFF]),
                 5 => random.pick(&[words[at] + 1, words[at] - 1, words[at] | high, end(0)]),
+                3 => 3 << 28 | random.pick(&[device_count(&words), 16, 255, 0x0FFF_FFFF, words[at] & 15 | high_of_claim]),
                 kind => kind << 28 | random.pick(&[device_count(&words), 16, 255, 0x0FFF_FFFF, words[at] & 15 | high]),
             };
         }
@@ -645,10 +822,15 @@ fn faulty(random: &mut Random, number: usize) -> Vec<u32> {
             }
         }
         11 => words.truncate(random.below(words.len())),
-        _ => {
+        12 => {
             let tasks = random.between(3, 8);
             let lengths: Vec<usize> = (0..tasks).map(|_| 2 * random.between(20, 127)).collect();
             words = any_set(random, &lengths);
+        }
+        _ => {
+            if let Some(at) = at_any(random, &words, &[3]) {
+                words[at] = too_many_units(random, &words, (words[at] & 0xFFFF) as usize);
+            }
         }
     }
     words

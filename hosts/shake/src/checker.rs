@@ -10,6 +10,7 @@ use crate::shares::{self, Shares};
 use crate::stored_plan;
 use crate::trial_cases::Lent;
 use crate::trials::{self, Trials};
+use crate::units::Units;
 use arbiter::sys;
 use std::fmt::Debug;
 
@@ -31,7 +32,7 @@ pub enum Call {
 #[derive(Default)]
 pub struct Seen {
     pub kinds: [[u64; 15]; CALLS.len()],
-    pub refusals: [[u64; 28]; CALLS.len()],
+    pub refusals: [[u64; 29]; CALLS.len()],
 }
 
 /// The dead states of a set, if it has any.
@@ -101,6 +102,7 @@ pub struct Checker {
     pub parts: Parts,
     pub asked: Asked,
     pub cleanings: Cleanings,
+    pub units: Units,
     pub shares: Shares,
     pub trials: Trials,
     /// Said first when something differs.
@@ -196,6 +198,7 @@ impl Checker {
             parts: Parts::default(),
             asked: Asked::default(),
             cleanings: Cleanings::default(),
+            units: Units::default(),
             shares: Shares::default(),
             trials: Trials::default(),
             input: String::new(),
@@ -310,6 +313,13 @@ impl Checker {
     pub fn in_service(&self, words: &[u32], is_so: bool, what: impl Fn() -> String) {
         if !is_so {
             self.fail(&Made { call: Call::Bid, words, beside: String::new(), map: None }, what());
+        }
+    }
+
+    /// What isn't so of the map and the plan of a set, as to units.
+    pub fn in_units(&self, words: &[u32], fault: Option<String>) {
+        if let Some(what) = fault {
+            self.fail(&Made { call: Call::Analyse, words, beside: String::new(), map: None }, what);
         }
     }
 

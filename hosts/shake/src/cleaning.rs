@@ -4,7 +4,7 @@ use crate::cases;
 use crate::checker::Checker;
 use crate::package;
 use crate::random::Random;
-use crate::reference::{self, Refusal, Set, Worked};
+use crate::reference::{self, Action, Refusal, Set, Worked};
 use std::fmt::{Display, Formatter, Result as Written};
 
 /// A list that the cleaner was lent.
@@ -19,7 +19,9 @@ struct Lent<'a> {
 impl Lent<'_> {
     fn new<'a>(words: &[u32], worked: &'a Worked) -> Lent<'a> {
         let devices = words.iter().take_while(|&&word| word >> 28 == 1).count();
-        let unclaimed = (0..devices).filter(|&device| !words.contains(&(0x3000_0000 | device as u32))).collect();
+        // Whatever its units are.
+        let claims = |word: &u32, device: usize| word & 0xF000_FFFF == 0x3000_0000 | device as u32;
+        let unclaimed = (0..devices).filter(|&device| !words.iter().any(|word| claims(word, device))).collect();
         Lent { set: &worked.former, unclaimed, devices }
     }
 
@@ -37,6 +39,11 @@ impl Lent<'_> {
         self.unclaimed.iter().any(|&device| claimed.first().is_some_and(|&first| first < device) && claimed.last().is_some_and(|&last| device < last))
     }
 
+    fn has_units(&self) -> bool {
+        let takes_several = |action: &Action| matches!(action, Action::Claim { units, .. } if *units > 1);
+        self.set.as_ref().is_ok_and(|set| set.tasks.iter().flatten().any(takes_several))
+    }
+
     fn has_claim_in_last_task_alone(&self) -> bool {
         self.set.as_ref().is_ok_and(|set| {
             let before_last = Set { capacities: set.capacities.clone(), tasks: set.tasks[..set.tasks.len() - 1].to_vec() };
@@ -47,7 +54,7 @@ impl Lent<'_> {
 
 /// What a list may be like. Where nothing else is said, the former rules accept it.
 type Sort = fn(&Lent) -> bool;
-const SORTS: [(&str, Sort); 11] = [
+const SORTS: [(&str, Sort); 14] = [
     ("without any device that no task claims", |list| list.set.is_ok() && list.unclaimed.is_empty()),
     ("with device 0 unclaimed", |list| list.is_old() && list.unclaimed[0] == 0),
     ("with the last device unclaimed", |list| list.is_old() && list.unclaimed.contains(&(list.devices - 1))),
@@ -57,6 +64,9 @@ const SORTS: [(&str, Sort); 11] = [
     ("with unclaimed ones among 16", |list| list.is_old() && list.devices == 16),
     ("with one unclaimed of 16", |list| list.is_old() && list.devices == 16 && list.unclaimed.len() == 1),
     ("with a device that the last task alone claims", |list| list.has_claim_in_last_task_alone()),
+    ("with claims of several units and none unclaimed", |list| list.has_units() && list.unclaimed.is_empty()),
+    ("with claims of several units and one unclaimed", |list| list.has_units() && list.is_old()),
+    ("with one unclaimed and refused with 28", |list| list.is_refused(28)),
     ("with one unclaimed and refused with 12", |list| list.is_refused(12)),
     ("with one unclaimed and refused with 11", |list| list.is_refused(11)),
 ];

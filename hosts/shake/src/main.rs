@@ -21,6 +21,7 @@ mod shares;
 mod stored_plan;
 mod trial_cases;
 mod trials;
+mod units;
 
 use arbiter::sys;
 use checker::{Checker, Seen, CALLS};
@@ -69,6 +70,7 @@ fn main() {
         println!("{}", checker.sets);
         println!("{}", checker.parts);
         println!("{}", checker.asked);
+        println!("{}", checker.units);
         println!("{}", checker.cleanings);
         println!("{}", checker.shares);
         println!("{}", checker.trials);
@@ -96,6 +98,7 @@ fn shake(checker: &mut Checker, seed: u64, input: u64) {
     let worked = Worked::new(&words);
     checker.input = format!("to see it again: shake replay {seed} {input}");
     checker.read(random, &words, &worked);
+    checker.units.count(&words, &worked);
     questions::of_no_set(checker, &mut asking);
     cleaning::of_list(checker, random, &words, &worked);
     match &worked.set {
@@ -106,6 +109,7 @@ fn shake(checker: &mut Checker, seed: u64, input: u64) {
         Ok(set) => {
             checker.sets.count(&words, &worked);
             analyses(checker, random, &words, &worked);
+            checker.in_units(&words, units::fault(random, &words, &worked.map, &worked.plan));
             bids(checker, random, &words, &worked, set);
             rounds(checker, random, &words, &worked, set);
             if let Some((map, record, task, settings)) = cases::shared_bid(random, set, &worked.map) {
@@ -303,16 +307,16 @@ fn print_table(seen: &Seen) {
     for (kind, name) in KINDS.iter().enumerate() {
         line(name, std::array::from_fn(|call| seen.kinds[call][kind]));
     }
-    for number in 1..28 {
+    for number in 1..29 {
         line(&format!("refused {number}"), std::array::from_fn(|call| seen.refusals[call][number]));
     }
 }
 
-/// Every answer that docs/SCOPE.md gives a call, every sort of dead states, of parts per thousand, of shares and of trials, every fault of a plan and every sort of list to
-/// clean must have come, or the run shows less than it says. 15 is the printer's alone.
+/// Every answer that docs/SCOPE.md gives a call, every sort of dead states, of parts per thousand, of shares and of trials, every fault of a plan and every sort of list with
+/// units and of list to clean must have come, or the run shows less than it says. 15 is the printer's alone.
 fn all_seen(checker: &Checker, inputs: u64) {
     let seen = &checker.seen;
-    const OF_A_SET: [usize; 13] = [1, 2, 3, 4, 5, 6, 7, 8, 9, 10, 11, 12, 24];
+    const OF_A_SET: [usize; 14] = [1, 2, 3, 4, 5, 6, 7, 28, 8, 9, 10, 11, 12, 24];
     // The last column: the refusals of a set, if the call is lent one. By the former rules, which cleaning goes by, there is no 24.
     let expected: [(&[usize], &[usize], &[usize]); CALLS.len()] = [
         (&[1], &[], &OF_A_SET),
@@ -321,12 +325,13 @@ fn all_seen(checker: &Checker, inputs: u64) {
         (&[8], &[16, 19], &OF_A_SET),
         (&[3], &[13, 16, 18, 20, 21], &OF_A_SET),
         (&[9, 10, 11], &[22, 23], &[]),
-        (&[12], &[25], &OF_A_SET[..12]),
+        (&[12], &[25], &OF_A_SET[..13]),
         (&[14], &[13, 16, 18, 26, 27], &OF_A_SET),
     ];
     let mut missing: Vec<String> = checker.sets.missing().chain(checker.parts.missing()).chain(checker.shares.missing()).collect();
     missing.extend(checker.trials.missing());
     missing.extend(checker.cleanings.missing(1 + inputs / 2000));
+    missing.extend(checker.units.missing(1 + inputs / 2000));
     for ((name, _), _) in FAULTS.iter().zip(checker.asked.faults).filter(|(_, count)| *count == 0) {
         missing.push(format!("a plan with the fault {name}"));
     }

@@ -121,8 +121,8 @@ fn words_of_plan(plan: Plan) -> Vec<u32> {
 
 fn told(action: arbiter::Action) -> Action {
     match action {
-        arbiter::Action::Claim { device } => Action::Claim(device),
-        arbiter::Action::Release { device } => Action::Release(device),
+        arbiter::Action::Claim { device, units } => Action::Claim { device, units },
+        arbiter::Action::Release { device } => Action::Release { device },
     }
 }
 
@@ -142,18 +142,23 @@ fn state(package: arbiter::Set, set: &Set, rank: usize) -> Result<(), String> {
     same("rank", (state.rank(), set.rank(&positions)), (rank, rank))?;
     same("state at its positions", package.state(positions), Some(state))?;
     let mut holders = vec![Vec::new(); set.capacities.len()];
+    let mut in_use = vec![0; set.capacities.len()];
     for (task, actions) in set.tasks.iter().enumerate() {
         let done = positions[task] as usize;
         same("last action", state.last_action(task).map(told), actions[..done].last().copied())?;
         same("next action", state.next_action(task).map(told), actions.get(done).copied())?;
-        for device in held_after(&actions[..done]) {
-            holders[device].push(task);
+        for held in held_after(&actions[..done]) {
+            holders[held.device].push(task);
+            in_use[held.device] += held.units;
+            same("units that a task holds", state.units(task, held.device), held.units)?;
         }
     }
     for (device, holders) in holders.into_iter().enumerate() {
+        let others = (0..set.tasks.len()).filter(|task| !holders.contains(task));
+        same("units that other tasks hold", others.map(|task| state.units(task, device)).sum(), 0)?;
         same("holders", state.holders(device).collect(), holders)?;
     }
-    Ok(())
+    same("units in use", (0..set.capacities.len()).map(|device| state.units_in_use(device)).collect(), in_use)
 }
 
 /// Where a state lies, and that the box which is named holds it.

@@ -2,10 +2,12 @@
 use borrow.Author.Needs.{needs}
 use borrow.Author.Tests.{eq-eqb, ne-eqb}
 use Prim.Native.Nat.{ℕ, _<_}
-use mathlib.Core.Path.{_≡_, sym, _∙_}
+use mathlib.Core.Path.{_≡_, refl, sym, _∙_}
 use native.Mathlib.Omega.{arith}
-use Rattle.model.specs.Layout.{kindOf, fieldOf, TASK}
-use Rattle.set_words.proofs.Actions.{device-field}
+use Rattle.model.specs.Set.{deviceOf, at}
+use Rattle.model.specs.Layout.{kindOf, TASK, actionOf}
+use Rattle.model.specs.Clean.{renamed}
+use Rattle.model.proofs.Renamed.{action-same}
 use Rattle.set_writer.specs.Renamed.{renamedWord}
 use Rattle.set_writer.proofs.renamed.Statement.{statement}
 use Rattle.set_writer.proofs.renamed.Tie as tie
@@ -34,13 +36,10 @@ module _ (c : tie.After-device) where
   no-task : kindOf w ≡ TASK → ⊥
   no-task e = c .before .if1 .left (c .before .before .kind .ensures ∙ e)
 
-  named : c .device .result ≡ fieldOf w
-  named = c .device .ensures ∙ device-field w
-
 element-copy-out-with-device : tie.Need-element-copy-out-with-device
 element-copy-out-with-device c =
-    let small : fieldOf (w c) < 16 = c .before .before .before .pre .0 0 (omega arith) (no-task c) in
-    rw (named c) small
+    let small : deviceOf (actionOf (w c)) < 16 = c .before .before .before .pre .0 0 (omega arith) (no-task c) in
+    rw (c .device .ensures) small
 
 with-device-requires : tie.Need-with-device-requires
 with-device-requires c κs = search needs
@@ -49,7 +48,10 @@ returns-2 : tie.Need-returns-2
 unfolding renamedWord
 returns-2 c =
     let d = c .before .before in
-    rw (ne-eqb (kindOf (w d)) TASK (no-task d), ← named d) (c .with-device .ensures)
+    let a = actionOf (w d) in
+    let numbers = at (d .before .before .before .args .numbers .now) in
+    let same : renamed (λ e. numbers (deviceOf a)) a ≡ renamed numbers a = action-same (λ e. numbers (deviceOf a)) numbers a refl in
+    rw (ne-eqb (kindOf (w d)) TASK (no-task d), ← same, ← d .device .ensures) (c .with-device .ensures)
 
 pub renamed-spec : {M : Type 1} → statement M
 renamed-spec =

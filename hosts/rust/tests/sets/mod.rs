@@ -47,6 +47,12 @@ pub const U_PLAN: [u32; 17] = [
 /// How many states R and U have, each.
 pub const STATES_OF_R: usize = 63;
 
+/// A gateway of three channels, and tasks that claim three, two, one and one of them together.
+pub const GATEWAY: [u32; 14] = [
+    0x10000003, 0x20000000, 0x30020000, 0x40000000, 0x20000000, 0x30010000, 0x40000000, 0x20000000, 0x30000000, 0x40000000, 0x20000000, 0x30000000, 0x40000000,
+    0x5000000D,
+];
+
 /// An analysis that is accepted: the number of plan words, and the parts per thousand.
 pub fn planned(words: usize, quotient: u32, remainder: u32) -> Result<Planned, Refused> {
     Ok(Planned { words, per_thousand: PerThousand { quotient, remainder } })

@@ -1,6 +1,6 @@
 -- `forbidden_boxes::choices::choices` meets its contract. The invariant: the boxes with the first i sides of the task are written, and `next` has the sides
 -- before the task, and after it the whole ones. The tasks left fall.
-use Prim.Native.Nat.{ℕ, _+_, _-_, _<_}
+use Prim.Native.Nat.{ℕ, _+_, _*_, _-_, _/_, _<_, _≤_}
 use native.Mathlib.Omega.{arith}
 use mathlib.Core.Path.{_≡_, refl, _∙_}
 use mathlib.Core.List.{List}
@@ -10,38 +10,40 @@ use borrow.Fn.Kinds.{In}
 use borrow.Fn.PlainCycle.{Measures, is, falls, and}
 use Rattle.model.specs.Set.{at}
 use Rattle.plan_words.specs.Words.{Wrote, upTo}
+use Rattle.plan_words.proofs.After.{wrote-same}
 use Rattle.plan_words.proofs.Run.{Turn, begins, placed, full, finished}
 use Rattle.forbidden_boxes.specs.Rows.{ROWS, Whole}
 use Rattle.forbidden_boxes.specs.Choices.{choiceWords}
-use Rattle.forbidden_boxes.proofs.Chosen.{some-left, half, half-some, in-rows, chosen, whole-after, whole-set, last-chosen, turn, each-side}
+use Rattle.forbidden_boxes.proofs.Chosen.{some-left, half, half-some, in-rows, chosen, whole-after, whole-set, turn, each-side, same-choice, last-chosen}
 use Rattle.forbidden_boxes.proofs.choices.choices.Reads as choices
 use Rattle.forbidden_boxes.proofs.choices.choices.Kinds as choices-kinds
 use Rattle.forbidden_boxes.proofs.choices.+choices.Lts-choices as choices-lts
 use Rattle.forbidden_boxes.proofs.choices.hold_boxes.Reads as hold-boxes-reads
 use Rattle.forbidden_boxes.proofs.sides.first_side.Reads as first-side-reads
 use Rattle.forbidden_boxes.proofs.sides.side_count.Reads as side-count-reads
+use Rattle.forbidden_boxes.proofs.sum.with_side.Reads as with-side-reads
 use Rattle.forbidden_boxes.proofs.choices.+choices.{statement}
 use Rattle.forbidden_boxes.proofs.choices.+choices.Tie.{close}
 
 -- the tasks left
-abbrev μ-choices : Measures 3 choices-kinds.ps ℕ
-μ-choices κs a = a .1 .1 .1 .1 .1 .0
+abbrev μ-choices : Measures 4 choices-kinds.ps ℕ
+μ-choices κs a = a .1 .1 .1 .1 .1 .1 .0
 
-abbrev choices-at : ℕ → In 3 choices-kinds.ps
-choices-at t = and 3 choices-kinds.ps (is 3 choices-kinds.ps μ-choices t) choices.Pre
+abbrev choices-at : ℕ → In 4 choices-kinds.ps
+choices-at t = and 4 choices-kinds.ps (is 4 choices-kinds.ps μ-choices t) choices.Pre
 
-abbrev choices-below : ℕ → In 3 choices-kinds.ps
-choices-below t = and 3 choices-kinds.ps (falls 3 choices-kinds.ps _<_ μ-choices t) choices.Pre
+abbrev choices-below : ℕ → In 4 choices-kinds.ps
+choices-below t = and 4 choices-kinds.ps (falls 4 choices-kinds.ps _<_ μ-choices t) choices.Pre
 
 abbrev choices-Inv-loop : choices-lts.InvT-loop
-choices-Inv-loop plan₀ at rows holds header left task mask count first next₀ to₀ i₀ plan next to i =
-    Turn (turn rows holds header left task mask first (take task next₀)) plan₀ at count plan to i
+choices-Inv-loop plan₀ at rows units holds limit left task mask sum count first next₀ to₀ i₀ plan next to i =
+    Turn (turn rows units holds (limit .header) (limit .capacity) left task mask (sum .all) (sum .least) first (take task next₀)) plan₀ at count plan to i
     × (length next ≡ 8)
     × (take task next ≡ take task next₀)
     × Whole rows next (task + 1) (left - 1)
 
 abbrev choices-μ-loop : choices-lts.MeasureT-loop
-choices-μ-loop plan₀ at rows holds header left task mask count first next₀ to₀ i₀ plan next to i = count - i
+choices-μ-loop plan₀ at rows units holds limit left task mask sum count first next₀ to₀ i₀ plan next to i = count - i
 
 abbrev callees : ℕ → choices-lts.Claims
 callees t = (
@@ -51,6 +53,8 @@ callees t = (
   side-count-reads.Learnt,
   first-side-reads.Asked,
   first-side-reads.Learnt,
+  with-side-reads.Asked,
+  with-side-reads.Learnt,
   choices-below t,
   choices.Post,
 )
@@ -58,21 +62,21 @@ callees t = (
 module _ (t : ℕ) where
   -- the function's start: from the branch where one task of the set is left, from the other, and from a turn of its loop
   abbrev begun-one : choices-lts.Then1 (callees t) (choices-at t) choices.Post choices-Inv-loop choices-μ-loop → choices-lts.Start (callees t) (choices-at t) choices.Post choices-Inv-loop choices-μ-loop
-  begun-one c = c .before .before .before .before
+  begun-one c = c .before .before .before .before .before
 
   abbrev begun : choices-lts.After-first-side (callees t) (choices-at t) choices.Post choices-Inv-loop choices-μ-loop → choices-lts.Start (callees t) (choices-at t) choices.Post choices-Inv-loop choices-μ-loop
-  begun c = let e = c .before .before in e .before .before .before .before
+  begun c = let e = c .before .before in e .before .before .before .before .before
 
   abbrev begun-turn : choices-lts.In-loop (callees t) (choices-at t) choices.Post choices-Inv-loop choices-μ-loop → choices-lts.Start (callees t) (choices-at t) choices.Post choices-Inv-loop choices-μ-loop
   begun-turn c = begun (c .before .before)
 
   -- the turn in which the boxes of a side were written
   abbrev turn-of : choices-lts.After-choices (callees t) (choices-at t) choices.Post choices-Inv-loop choices-μ-loop → choices-lts.In-loop (callees t) (choices-at t) choices.Post choices-Inv-loop choices-μ-loop
-  turn-of c = c .before .before .before
+  turn-of c = c .before .before .before .before .before
 
   -- `sides` is an array of eight
-  eight : (s : choices-lts.Start (callees t) (choices-at t) choices.Post choices-Inv-loop choices-μ-loop) → length (s .args .t9) ≡ 8
-  eight s = s .good .1 .1 .1 .1 .1 .1 .1 .1 .0 .1 .0 .1
+  eight : (s : choices-lts.Start (callees t) (choices-at t) choices.Post choices-Inv-loop choices-μ-loop) → length (s .args .t10) ≡ 8
+  eight s = s .good .1 .1 .1 .1 .1 .1 .1 .1 .1 .0 .1 .0 .1
 
   -- a mask that is not 0 has a task left
   some : (s : choices-lts.Start (callees t) (choices-at t) choices.Post choices-Inv-loop choices-μ-loop) → 0 < s .args .left
@@ -82,17 +86,20 @@ module _ (t : ℕ) where
   abbrev boxes : choices-lts.After-first-side (callees t) (choices-at t) choices.Post choices-Inv-loop choices-μ-loop → ℕ → List ℕ
   boxes c =
       let a = begun c .args in
-      turn (a .rows .now) (a .holds .now) (a .header) (a .left) (a .task) (a .mask) (c .first-side .result) (take (a .task) (a .t9))
+      turn (a .rows .now) (a .units .now) (a .holds .now) (a .limit .header) (a .limit .capacity) (a .left) (a .task) (a .mask) (a .sum .all) (a .sum .least)
+      (c .first-side .result) (take (a .task) (a .t10))
 
   -- together they are those to write
   sides-in-turn : (c : choices-lts.After-first-side (callees t) (choices-at t) choices.Post choices-Inv-loop choices-μ-loop)
       → (let a = begun c .args in
-      choiceWords (a .rows .now) (a .holds .now) (a .header) (a .left) (a .task) (a .mask) (take (a .task) (a .t9))
+      choiceWords (a .rows .now) (a .units .now) (a .holds .now) (a .limit .header) (a .limit .capacity) (a .left) (a .task) (a .mask) (a .sum .all) (a .sum .least)
+      (take (a .task) (a .t10))
       ≡ upTo (c .before .side-count .result) 0 (boxes c))
   sides-in-turn c =
       let s = begun c in
       let a = s .args in
-      each-side (a .rows .now) (a .holds .now) (a .header) (a .left) (a .task) (a .mask) (c .first-side .result) (take (a .task) (a .t9))
+      each-side (a .rows .now) (a .units .now) (a .holds .now) (a .limit .header) (a .limit .capacity) (a .left) (a .task) (a .mask) (a .sum .all) (a .sum .least)
+      (c .first-side .result) (take (a .task) (a .t10))
       (some s) (c .before .side-count .ensures) (c .first-side .ensures)
 
   -- the side of a turn stands in the rows
@@ -114,8 +121,11 @@ module _ (t : ℕ) where
       let o = i .before .loop in
       let f = i .before .before .first-side .result in
       let more = some s in
-      let k = chosen (o .next) (take (a .task) (a .t9)) (a .task) (at (a .rows .now) (f + o .i)) (omega arith) (o .inv .2) in
-      rw k at (c .choices .ensures)
+      let k = chosen (o .next) (take (a .task) (a .t10)) (a .task) (at (a .rows .now) (f + o .i)) (omega arith) (o .inv .2) in
+      let w = c .before .with-side .ensures in
+      wrote-same
+      (same-choice (a .rows .now) (a .units .now) (a .holds .now) (a .limit .header) (a .limit .capacity) (a .left - 1) (a .task + 1) (a .mask / 2) (w .0) (w .1) k)
+      (c .choices .ensures)
 
   choices-mul-count : choices-lts.Need-mul-count (callees t) (choices-at t) choices.Post choices-Inv-loop choices-μ-loop
   choices-mul-count c = omega (arith, some (begun-one c))
@@ -123,15 +133,14 @@ module _ (t : ℕ) where
   choices-shared-slice-read-count : choices-lts.Need-shared-slice-read-count (callees t) (choices-at t) choices.Post choices-Inv-loop choices-μ-loop
   choices-shared-slice-read-count c = let s = begun-one (c .before) in omega (arith, some s, s .pre .1 .1 .1 .0 .eight-holds)
 
-  choices-add-hold-boxes : choices-lts.Need-add-hold-boxes (callees t) (choices-at t) choices.Post choices-Inv-loop choices-μ-loop
-  choices-add-hold-boxes c = omega arith
-
   choices-hold-boxes-requires : choices-lts.Need-hold-boxes-requires (callees t) (choices-at t) choices.Post choices-Inv-loop choices-μ-loop
   choices-hold-boxes-requires c κs =
       let s = begun-one (c .before .before .before) in
       let more = some s in
-      let sized = s .pre .1 .1 .1 .0 in
-      (omega arith, (omega arith, (omega arith, (sized .eight-rows, (sized .few (s .args .task), eight s)))))
+      let sized = s .pre .1 .1 .1 .0 in (
+        omega arith,
+        (omega arith, (omega arith, (sized .eight-rows, (sized .eight-units, (sized .few (s .args .task), eight s))))),
+      )
 
   choices-same-length : choices-lts.Need-same-length (callees t) (choices-at t) choices.Post choices-Inv-loop choices-μ-loop
   choices-same-length c = c .before .before .hold-boxes .kept .0
@@ -142,15 +151,15 @@ module _ (t : ℕ) where
       let one = h .before .before .before .before in
       let s = begun-one one in
       let a = s .args in
-      rw (last-chosen (a .rows .now) (a .holds .now) (a .header) (a .left) (a .task) (a .mask) (a .t9) (one .if1 .taken) (some s)
-      (omega (arith, eight s)) (s .pre .1 .1 .1 .1 .1 .1))
+      rw (last-chosen (a .rows .now) (a .units .now) (a .holds .now) (a .limit .header) (a .limit .capacity) (a .left) (a .task) (a .mask) (a .sum .all) (a .sum .least)
+      (a .t10) (one .if1 .taken) (some s) (omega (arith, eight s)) (s .pre .1 .1 .1 .1 .1 .1 .0))
       (h .hold-boxes .ensures)
 
   choices-side-count-requires : choices-lts.Need-side-count-requires (callees t) (choices-at t) choices.Post choices-Inv-loop choices-μ-loop
-  choices-side-count-requires c κs = let s = c .before .before .before .before in omega (arith, some s, s .pre .1 .1 .1 .0 .eight-holds)
+  choices-side-count-requires c κs = let s = c .before .before .before .before .before in omega (arith, some s, s .pre .1 .1 .1 .0 .eight-holds)
 
   choices-first-side-requires : choices-lts.Need-first-side-requires (callees t) (choices-at t) choices.Post choices-Inv-loop choices-μ-loop
-  choices-first-side-requires c κs = omega (arith, some (c .before .before .before .before .before))
+  choices-first-side-requires c κs = omega (arith, some (c .before .before .before .before .before .before))
 
   choices-loop-holds : choices-lts.Need-loop-holds (callees t) (choices-at t) choices.Post choices-Inv-loop choices-μ-loop
   choices-loop-holds c =
@@ -159,7 +168,7 @@ module _ (t : ℕ) where
         begins (boxes c) (a .plan .now) (a .at) (c .before .side-count .result) (omega arith),
         eight s,
         refl,
-        whole-after (a .rows .now) (a .t9) (a .task) (a .left) (s .pre .1 .1 .1 .1 .1 .1),
+        whole-after (a .rows .now) (a .t10) (a .task) (a .left) (s .pre .1 .1 .1 .1 .1 .1 .0),
       )
 
   choices-add-next : choices-lts.Need-add-next (callees t) (choices-at t) choices.Post choices-Inv-loop choices-μ-loop
@@ -183,9 +192,20 @@ module _ (t : ℕ) where
   choices-add-choices : choices-lts.Need-add-choices (callees t) (choices-at t) choices.Post choices-Inv-loop choices-μ-loop
   choices-add-choices c = omega arith
 
+  choices-add-with-side : choices-lts.Need-add-with-side (callees t) (choices-at t) choices.Post choices-Inv-loop choices-μ-loop
+  choices-add-with-side c = omega (arith, in-range (c .before .before))
+
+  choices-shared-slice-read-with-side : choices-lts.Need-shared-slice-read-with-side (callees t) (choices-at t) choices.Post choices-Inv-loop choices-μ-loop
+  choices-shared-slice-read-with-side c =
+      let i = c .before .before .before in
+      omega (arith, in-range i, begun-turn i .pre .1 .1 .1 .0 .eight-units)
+
+  choices-with-side-requires : choices-lts.Need-with-side-requires (callees t) (choices-at t) choices.Post choices-Inv-loop choices-μ-loop
+  choices-with-side-requires c κs = let s = begun-turn (c .before .before .before) in omega (arith, some s, s .pre .1 .1 .1 .1 .1 .1 .1)
+
   choices-choices-requires : choices-lts.Need-choices-requires (callees t) (choices-at t) choices.Post choices-Inv-loop choices-μ-loop
   choices-choices-requires c κs =
-      let i = c .before .before in
+      let i = c .before .before .before .before in
       let f = i .before .before in
       let s = begun-turn i in
       let a = s .args in
@@ -195,7 +215,9 @@ module _ (t : ℕ) where
       let less = half (a .mask) (a .left) (r .1 .0) more in
       let odd = half-some (a .mask) (r .1 .1 .0) (f .before .before .if1 .left) in
       let v = at (a .rows .now) (f .first-side .result + o .i) in
-      (omega arith, (omega arith, (omega arith, (r .0, (less, (odd, whole-set (a .rows .now) (o .next) (a .task) (a .left - 1) v (o .inv .3)))))))
+      let whole = whole-set (a .rows .now) (o .next) (a .task) (a .left - 1) v (o .inv .3) in
+      let sum : c .with-side .result .all ≤ 255 * (a .task + 1) = omega (arith, c .with-side .ensures .2, r .1 .1 .1 .1) in
+      (omega arith, (omega arith, (omega arith, (r .0, (less, (odd, (whole, sum)))))))
 
   choices-enum-known-p : choices-lts.Need-enum-known-p (callees t) (choices-at t) choices.Post choices-Inv-loop choices-μ-loop
   choices-enum-known-p c = c .match .keys1
@@ -249,7 +271,6 @@ pub +choices-spec : {M : Type 1} → statement M
 +choices-spec = close μ-choices λ t. choices-lts.spec (callees t) (choices-at t) choices.Post choices-Inv-loop choices-μ-loop
     (choices-mul-count t)
     (choices-shared-slice-read-count t)
-    (choices-add-hold-boxes t)
     (choices-hold-boxes-requires t)
     (choices-same-length t)
     (choices-returns t)
@@ -263,6 +284,9 @@ pub +choices-spec : {M : Type 1} → statement M
     (choices-array-write-next t)
     (choices-sub-choices t)
     (choices-add-choices t)
+    (choices-add-with-side t)
+    (choices-shared-slice-read-with-side t)
+    (choices-with-side-requires t)
     (choices-choices-requires t)
     (choices-enum-known-p t)
     (choices-enum-told t)

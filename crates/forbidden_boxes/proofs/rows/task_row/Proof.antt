@@ -26,11 +26,14 @@ slice-write-rows c = search needs
 same-length : tie.Need-same-length
 same-length c = search needs
 
+same-length-2 : tie.Need-same-length-2
+same-length-2 c = search needs
+
 returns : tie.Need-returns
 returns c =
-    let h = c .before .before .before in
-    let a = h .before .before .before .before .args in
-    row-made (a .words .now) (a .start) (a .len) (a .device) (a .task) (a .rows .now) _ _ _ (h .hold-sides .ensures) (omega arith)
+    let h = c .before .before .before .before .before in
+    let a = h .before .before .before .before .before .before .args in
+    row-made (a .words .now) (a .start) (a .len) (a .device) (a .task) (a .rows .now) (a .units .now) _ _ _ _ (h .hold-sides .ensures) (omega arith)
     (c .side .ensures)
 
 pub task-row-spec : {M : Type 1} → statement M
@@ -44,4 +47,5 @@ task-row-spec =
     mul-rows-2
     slice-write-rows
     same-length
+    same-length-2
     returns)

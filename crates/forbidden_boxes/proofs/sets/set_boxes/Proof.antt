@@ -1,11 +1,11 @@
 -- `forbidden_boxes::sets::set_boxes` meets its contract: a set that is wanted has a task of those that are there, as `choices` asks.
-use Prim.Native.Nat.{_+_, _^_}
+use Prim.Native.Nat.{_*_, _^_}
 use native.Mathlib.Omega.{arith}
 use mathlib.Core.Path.{sym, _∙_}
 use lib.Count.{ones}
-use lib.Dec.{ltb, eqb}
+use lib.Dec.{ltb}
 use borrow.Author.Needs.{needs}
-use borrow.Author.Tests.{ltb-true, eqb-true}
+use borrow.Author.Tests.{ltb-true}
 use Rattle.model.proofs.Bools.{and-true}
 use Rattle.plan_words.proofs.After.{wrote-none}
 use Rattle.forbidden_boxes.specs.Choices.{setWords}
@@ -19,14 +19,14 @@ wanted-requires c κs = search needs
 choices-requires : tie.Need-choices-requires
 choices-requires c κs =
     let w = c .before .before in
-    let s = w .before .before .before .before in
+    let s = w .before .before .before .before .before in
     let a = s .args in
     let r = s .pre .1 .1 in
     let yes = sym (w .wanted .ensures) ∙ c .before .if1 .taken in
-    let tests = and-true (ltb (a .mask) (2 ^ a .tasks)) (eqb (ones (a .mask)) (a .capacity + 1)) yes in
+    let tests = and-true (ltb (a .mask) (2 ^ a .tasks)) (ltb (a .limit .capacity) (ones (a .mask) * a .most)) yes in
     let fits = ltb-true (a .mask) (2 ^ a .tasks) (tests .0) in
-    let some = not-empty (a .mask) (a .capacity) (eqb-true (ones (a .mask)) (a .capacity + 1) (tests .1)) in
-    (omega arith, (omega arith, (r .0, (fits, (some, r .1)))))
+    let some = not-empty (a .mask) (a .limit .capacity) (a .most) (ltb-true (a .limit .capacity) (ones (a .mask) * a .most) (tests .1)) in
+    (omega arith, (omega arith, (r .0, (fits, (some, (r .1, omega arith))))))
 
 same-length : tie.Need-same-length
 same-length c = search needs

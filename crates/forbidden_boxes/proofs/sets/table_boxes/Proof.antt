@@ -6,30 +6,26 @@ use mathlib.Core.List.{List}
 use lib.ListN.{getD}
 use lib.Count.{ones}
 use borrow.Author.Tests.{ltb-true}
-use Rattle.model.specs.Forbidden.{choose}
-use Rattle.model.specs.TaskTable.{maskOf, masksFrom, table}
+use Rattle.model.specs.Forbidden.{choose, setsFrom}
+use Rattle.model.specs.TaskTable.{maskOf, table}
 use Rattle.plan_words.proofs.Run.{Turn, begins, placed, full, passed, finished}
 use Rattle.task_sets.specs.Next.{next}
 use Rattle.task_sets.proofs.Walks.{table-next}
 use Rattle.forbidden_boxes.specs.Choices.{setWords, tableWords}
-use Rattle.forbidden_boxes.proofs.Walked.{too-large}
+use Rattle.forbidden_boxes.proofs.Walked.{setAt, too-large, small-enough}
 use Rattle.forbidden_boxes.proofs.sets.table_boxes.Statement.{statement}
 use Rattle.forbidden_boxes.proofs.sets.table_boxes.Tie as tie
 
--- the words for the k-th set
-abbrev setAt : List ℕ → List ℕ → ℕ → ℕ → ℕ → ℕ → List ℕ
-setAt rows holds header n s k = setWords rows holds header n s (getD table k 0)
-
 abbrev Inv-loop : tie.InvT-loop
-Inv-loop plan₀ at rows holds header tasks capacity sides to₀ mask₀ k₀ plan to mask k =
-    Turn (setAt rows holds header tasks capacity) plan₀ at 255 plan to k × (k < 255 → mask ≡ getD table k 0)
+Inv-loop plan₀ at rows units holds limit tasks most sides to₀ mask₀ k₀ plan to mask k =
+    Turn (setAt rows units holds (limit .header) (limit .capacity) tasks most) plan₀ at 255 plan to k × (k < 255 → mask ≡ getD table k 0)
 
 abbrev μ-loop : tie.MeasureT-loop
-μ-loop plan₀ at rows holds header tasks capacity sides to₀ mask₀ k₀ plan to mask k = 255 - k
+μ-loop plan₀ at rows units holds limit tasks most sides to₀ mask₀ k₀ plan to mask k = 255 - k
 
 -- the function's start, from where the whole sides are made, and from the loop's test
 abbrev begun : tie.After-whole-sides Inv-loop μ-loop → tie.Start Inv-loop μ-loop
-begun c = c .before .before .before .before
+begun c = c .before .before .before .before .before
 
 abbrev begun-turn : tie.In-loop Inv-loop μ-loop → tie.Start Inv-loop μ-loop
 begun-turn c = begun (c .before .before)
@@ -40,13 +36,13 @@ turn c = c .before .before .before .before
 
 -- the words of each set
 abbrev boxes : tie.Start Inv-loop μ-loop → ℕ → List ℕ
-boxes s = let a = s .args in setAt (a .rows .now) (a .holds .now) (a .header) (a .tasks) (a .capacity)
+boxes s = let a = s .args in setAt (a .rows .now) (a .units .now) (a .holds .now) (a .limit .header) (a .limit .capacity) (a .tasks) (a .most)
 
 whole-sides-requires : tie.Need-whole-sides-requires Inv-loop μ-loop
-whole-sides-requires c κs = (omega arith, c .before .before .before .pre .1 .1 .eight-rows)
+whole-sides-requires c κs = (omega arith, c .before .before .before .before .pre .1 .1 .eight-rows)
 
 loop-holds : tie.Need-loop-holds Inv-loop μ-loop
-unfolding table masksFrom maskOf choose
+unfolding table maskOf setsFrom choose
 loop-holds c = let s = begun c in (begins (boxes s) (s .args .plan .now) (s .args .at) 255 (omega arith), λ h. refl)
 
 exceeds-by-more-requires : tie.Need-exceeds-by-more-requires Inv-loop μ-loop
@@ -62,16 +58,19 @@ returns c =
     let s = begun-turn i in
     let o = i .before .loop in
     let a = s .args in
-    let large : a .capacity + 1 < ones (o .mask) = ltb-true (a .capacity + 1) (ones (o .mask)) (sym (c .before .exceeds-by-more .ensures) ∙ c .if1 .taken) in
+    let more = a .limit .capacity + 1 in
+    let large : more < ones (o .mask) = ltb-true more (ones (o .mask)) (sym (c .before .exceeds-by-more .ensures) ∙ c .if1 .taken) in
     let here = rw (o .inv .1 (omega arith)) at large in
     finished (boxes s) (a .plan .now) (a .at) 255
-    (passed (boxes s) (a .plan .now) (a .at) 255 (o .inv .0) (too-large (a .rows .now) (a .holds .now) (a .header) (a .tasks) (a .capacity) (o .k) here))
+    (passed (boxes s) (a .plan .now) (a .at) 255 (o .inv .0)
+    (too-large (a .rows .now) (a .units .now) (a .holds .now) (a .limit .header) (a .limit .capacity) (a .tasks) (a .most) (o .k) here))
     (omega arith)
 
 set-boxes-requires : tie.Need-set-boxes-requires Inv-loop μ-loop
 set-boxes-requires c κs =
     let i = c .before .before .before in
-    (omega (arith, i .before .loop .inv .0 .room, i .before .loop .inv .0 .same), (omega arith, (begun-turn i .pre .1 .1, i .before .before .whole-sides .ensures)))
+    let sized = begun-turn i .pre .1 .1 in
+    (omega (arith, i .before .loop .inv .0 .room, i .before .loop .inv .0 .same), (omega arith, (sized, i .before .before .whole-sides .ensures)))
 
 enum-known-p : tie.Need-enum-known-p Inv-loop μ-loop
 enum-known-p c = c .match .keys1
@@ -82,13 +81,16 @@ enum-told c = c .match .keys2
 same-length-2 : tie.Need-same-length-2 Inv-loop μ-loop
 same-length-2 c = let w = c .before .before .before .before in w .set-boxes .kept .0 ∙ turn w .before .loop .inv .0 .same
 
--- the words of the set at hand are those of the table's
+-- the set at hand is the table's, and not too large
 this : (w : tie.After-set-boxes Inv-loop μ-loop) → let i = turn w in let a = begun-turn i .args in
-    setWords (a .rows .now) (a .holds .now) (a .header) (a .tasks) (a .capacity) (i .before .loop .mask) ≡ boxes (begun-turn i) (i .before .loop .k)
+    setWords (a .rows .now) (a .units .now) (a .holds .now) (a .limit .header) (a .limit .capacity) (a .tasks) (a .most) (i .before .loop .mask)
+    ≡ boxes (begun-turn i) (i .before .loop .k)
 this w =
     let i = turn w in
+    let o = i .before .loop in
     let a = begun-turn i .args in
-    ap (setWords (a .rows .now) (a .holds .now) (a .header) (a .tasks) (a .capacity)) (i .before .loop .inv .1 (omega arith))
+    small-enough (a .rows .now) (a .units .now) (a .holds .now) (a .limit .header) (a .limit .capacity) (a .tasks) (a .most) (o .k) (o .mask) (o .inv .1 (omega arith))
+    (sym (w .before .before .before .exceeds-by-more .ensures) ∙ w .before .before .if1 .left)
 
 returns-2 : tie.Need-returns-2 Inv-loop μ-loop
 unfolding tableWords

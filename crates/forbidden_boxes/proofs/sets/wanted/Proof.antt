@@ -3,6 +3,7 @@ use Prim.Native.Nat.{ℕ, _*_, _%_, _^_, _≤_, _<_}
 use native.Mathlib.Nat.{one-mul}
 use native.Mathlib.Omega.{arith}
 use mathlib.Core.Path.{_≡_, _∙_}
+use lib.Count.{ones-le}
 use lib.Dec.{lit<}
 use lib.Pow.{shl-exact}
 use borrow.Author.Needs.{needs}
@@ -20,14 +21,19 @@ cast-if1 c = search needs
 shl-if1 : tie.Need-shl-if1
 shl-if1 c = search needs
 
-exceeds-by-one-requires : tie.Need-exceeds-by-one-requires
-exceeds-by-one-requires c κs = search needs
+task-count-requires : tie.Need-task-count-requires
+task-count-requires c κs = search needs
+
+can-exceed-requires : tie.Need-can-exceed-requires
+can-exceed-requires c κs = omega (arith, c .task-count .ensures, ones-le 8 (c .before .before .args .mask) (omega arith))
 
 returns : tie.Need-returns
 returns c =
-    let a = c .before .before .args in
-    let h : a .mask < 2 ^ a .tasks = rw (shifted (a .tasks) (c .before .before .pre)) at (c .before .if1 .taken) in
-    rw (lt-ltb (a .mask) (2 ^ a .tasks) h) (c .exceeds-by-one .ensures)
+    let n = c .before in
+    let s = n .before .before in
+    let a = s .args in
+    let h : a .mask < 2 ^ a .tasks = rw (shifted (a .tasks) (s .pre)) at (n .before .if1 .taken) in
+    rw (lt-ltb (a .mask) (2 ^ a .tasks) h, ← n .task-count .ensures) (c .can-exceed .ensures)
 
 returns-2 : tie.Need-returns-2
 returns-2 c =
@@ -36,4 +42,4 @@ returns-2 c =
     rw (le-ltb (a .mask) (2 ^ a .tasks) h)
 
 pub wanted-spec : {M : Type 1} → statement M
-wanted-spec = tie.close (tie.spec cast-if1 shl-if1 exceeds-by-one-requires returns returns-2)
+wanted-spec = tie.close (tie.spec cast-if1 shl-if1 task-count-requires can-exceed-requires returns returns-2)

@@ -3,9 +3,8 @@ use borrow.Author.Needs.{needs}
 use borrow.Author.Tests.{ltb-true, not-true, not-false}
 use native.Mathlib.Omega.{arith}
 use mathlib.Core.Path.{_≡_, sym, _∙_}
-use mathlib.Core.Bool.{true, false, Bool·beq}
+use mathlib.Core.Bool.{true, false}
 use lib.Dec.{eqb, ltb, leb}
-use lib.ListN.{getD}
 use Rattle.reader.specs.Faults.{actionFault}
 use Rattle.reader.proofs.faults.action_fault.Statement.{statement}
 use Rattle.reader.proofs.faults.action_fault.Tie as tie
@@ -33,9 +32,15 @@ returns c = rw (sym (c .before .before-any-task .ensures) ∙ c .if1 .taken)
 device-declared-requires : tie.Need-device-declared-requires
 device-declared-requires c κs = search needs
 
+units-fault-requires : tie.Need-units-fault-requires
+units-fault-requires c κs = search needs
+
 returns-2 : tie.Need-returns-2
 unfolding actionFault
-returns-2 c = let k = c .before in rw (in-order (k .before), sym (k .device-declared .ensures) ∙ not-true _ (c .if2 .taken))
+returns-2 c =
+    let k = c .before in
+    let d = k .before in
+    rw (in-order (d .before), sym (d .device-declared .ensures) ∙ not-true _ (k .if2 .taken)) (c .units-fault .ensures)
 
 too-many-actions-requires : tie.Need-too-many-actions-requires
 too-many-actions-requires c κs = search needs
@@ -46,42 +51,20 @@ returns-3 c =
     let k = c .before in
     rw (in-order (k .before .before .before), named (k .before), sym (k .too-many-actions .ensures) ∙ c .if3 .taken)
 
-element-copy-out-conflicts : tie.Need-element-copy-out-conflicts
-element-copy-out-conflicts c =
+element-copy-out-held-fault : tie.Need-element-copy-out-held-fault
+element-copy-out-held-fault c =
     let a = start-of c .args in
     omega (arith, ltb-true (a .field) (a .devices) (named (c .before .before)), start-of c .pre)
 
-conflicts-requires : tie.Need-conflicts-requires
-conflicts-requires c κs = search needs
-
--- what the last rule tells
-module _ (c : tie.After-conflicts) where
-  abbrev at : tie.Else3
-  at = c .before .before
-
-  told : let a = start-of at .args in c .conflicts .result ≡ Bool·beq (getD (a .held .now) (a .field) false) (a .claim)
-  told = c .conflicts .ensures
+held-fault-requires : tie.Need-held-fault-requires
+held-fault-requires c κs = search needs
 
 returns-4 : tie.Need-returns-4
 unfolding actionFault
 returns-4 c =
     let k = c .before .before in
-    let e = at k .before in
-    rw (in-order (e .before .before .before), named (e .before), room (at k), sym (told k) ∙ c .before .if4 .taken, c .if5 .taken)
-
-returns-5 : tie.Need-returns-5
-unfolding actionFault
-returns-5 c =
-    let k = c .before .before in
-    let e = at k .before in
-    rw (in-order (e .before .before .before), named (e .before), room (at k), sym (told k) ∙ c .before .if4 .taken, c .if5 .left)
-
-returns-6 : tie.Need-returns-6
-unfolding actionFault
-returns-6 c =
-    let k = c .before in
-    let e = at k .before in
-    rw (in-order (e .before .before .before), named (e .before), room (at k), sym (told k) ∙ c .if4 .left)
+    let e = k .before in
+    rw (in-order (e .before .before .before), named (e .before), room k) (c .held-fault .ensures)
 
 pub action-fault-spec : {M : Type 1} → statement M
 action-fault-spec =
@@ -90,11 +73,10 @@ action-fault-spec =
     before-any-task-requires
     returns
     device-declared-requires
+    units-fault-requires
     returns-2
     too-many-actions-requires
     returns-3
-    element-copy-out-conflicts
-    conflicts-requires
-    returns-4
-    returns-5
-    returns-6)
+    element-copy-out-held-fault
+    held-fault-requires
+    returns-4)

@@ -12,7 +12,7 @@ use Rattle.reader.proofs.faults.word_fault.Tie as tie
 -- a match on the kind tells the word's
 module _ (c : tie.After-field) where
   abbrev word : ℕ
-  word = c .before .before .before .before .before .args .word
+  word = c .before .before .before .before .before .before .args .word
 
   kind-is : (k : ℕ) → c .before .kind .result ≡ k → kindOf word ≡ k
   kind-is k e = sym (c .before .kind .ensures) ∙ e
@@ -21,7 +21,7 @@ last-of-requires : tie.Need-last-of-requires
 last-of-requires c κs = search needs
 
 array-read-length : tie.Need-array-read-length
-array-read-length c = rw (c .last-of .ensures) (omega (arith, c .before .before .before .pre))
+array-read-length c = rw (c .last-of .ensures) (omega (arith, c .before .before .before .before .pre))
 
 cast-length : tie.Need-cast-length
 cast-length c = search needs
@@ -62,14 +62,14 @@ returns-2 c =
 returns-3 : tie.Need-returns-3
 unfolding wordFault
 returns-3 c =
-    let f = c .before .before .before in
-    c .action-fault .ensures ∙ rw (kind-is f 3 (c .before .before .match .keys3), f .field .ensures, f .before .before .last-of .ensures)
+    let f = c .before .before .before .before in
+    c .action-fault .ensures ∙ rw (kind-is f 3 (c .before .before .before .match .keys3), f .field .ensures, f .before .before .last-of .ensures)
 
 returns-4 : tie.Need-returns-4
 unfolding wordFault
 returns-4 c =
-    let f = c .before .before .before in
-    c .action-fault2 .ensures ∙ rw (kind-is f 4 (c .before .before .match .keys4), f .field .ensures, f .before .before .last-of .ensures)
+    let f = c .before .before .before .before in
+    c .action-fault2 .ensures ∙ rw (kind-is f 4 (c .before .before .before .match .keys4), f .field .ensures, f .before .before .last-of .ensures)
 
 returns-5 : tie.Need-returns-5
 unfolding wordFault

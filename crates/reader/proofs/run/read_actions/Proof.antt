@@ -3,27 +3,28 @@ use borrow.Author.Needs.{needs}
 use borrow.Author.Tests.{ltb-true, ltb-false, eqb-true, eqb-false, eq-eqb, ne-eqb}
 use Prim.Native.Nat.{ℕ, _-_, _≤_, _<_}
 use native.Mathlib.Omega.{arith}
-use mathlib.Core.Path.{_≡_}
+use mathlib.Core.Path.{_≡_, sym, ap, _∙_}
 use mathlib.Core.Bool.{Bool, true, false, cond}
 use lib.Dec.{eqb}
 use lib.ListN.{length}
 use Rattle.model.specs.Set.{at}
-use Rattle.model.specs.Layout.{kindOf, fieldOf}
+use Rattle.model.specs.Layout.{kindOf, fieldOf, deviceBits}
 use Rattle.model.proofs.Bools.{by-bool, by-cases}
 use Rattle.reader.specs.declared.scan.Scan.{Scan}
 use Rattle.reader.specs.Faults.{actionFault}
 use Rattle.reader.specs.Follow.{Reached, counted, Opened}
 use Rattle.reader.proofs.FaultLaws.{action-kept}
+use Rattle.reader.proofs.LastTask.{named}
 use Rattle.reader.proofs.Going.{few-devices, no-action, one-action}
 use Rattle.reader.proofs.run.read_actions.Statement.{statement}
 use Rattle.reader.proofs.run.read_actions.Tie as tie
 
 abbrev Inv-loop : tie.InvT-loop
-Inv-loop words from devices tasks held₀ claimed₀ i₀ held claimed i =
-    (from ≤ i) × (i - from ≤ 255) × ((s : Scan) → Opened words s devices tasks held₀ claimed₀ from → Reached words (counted s (i - from) held claimed) i)
+Inv-loop words from devices capacities tasks held₀ claimed₀ i₀ held claimed i =
+    (from ≤ i) × (i - from ≤ 255) × ((s : Scan) → Opened words s devices capacities tasks held₀ claimed₀ from → Reached words (counted s (i - from) held claimed) i)
 
 abbrev μ-loop : tie.MeasureT-loop
-μ-loop words from devices tasks held₀ claimed₀ i₀ held claimed i = length words - i
+μ-loop words from devices capacities tasks held₀ claimed₀ i₀ held claimed i = length words - i
 
 -- a kind between CLAIM and RELEASE is one of them, and each is told by whether it is CLAIM
 kind-of-action : (k : ℕ) → 3 ≤ k → k ≤ 4 → k ≡ cond (eqb k 3) 3 4
@@ -38,7 +39,7 @@ an-action true = (omega arith, omega arith)
 an-action false = (omega arith, omega arith)
 
 loop-holds : tie.Need-loop-holds Inv-loop μ-loop
-loop-holds c = (omega arith, omega arith, λ s o. no-action _ s _ _ _ _ _ o)
+loop-holds c = (omega arith, omega arith, λ s o. no-action _ s _ _ _ _ _ _ o)
 
 mul-word : tie.Need-mul-word Inv-loop μ-loop
 mul-word c = search needs
@@ -105,28 +106,40 @@ module _ (c : tie.Else3 Inv-loop μ-loop) where
   abbrev word : ℕ
   word = at (start .args .words .now) (here .loop .i)
 
-  free : actionFault (start .args .devices) (start .args .tasks) (here .loop .i - start .args .from) (here .loop .held) (eqb (kindOf word) 3) (fieldOf word) ≡ 0
+  abbrev claim : Bool
+  claim = eqb (told .kind .result) 3
+
+  free : actionFault (start .args .devices) (start .args .capacities .now) (start .args .tasks) (here .loop .i - start .args .from) (here .loop .held) claim (fieldOf word) ≡ 0
   free =
       let none : c .before .action-fault .result ≡ 0 = omega (arith, c .if3 .left) in
-      rw (c .before .action-fault .ensures, c .before .before .before .field .ensures, told .kind .ensures) at none
+      rw (c .before .action-fault .ensures, c .before .before .before .field .ensures) at none
 
-  kind-is : kindOf word ≡ cond (eqb (kindOf word) 3) 3 4
+  kind-is : kindOf word ≡ cond claim 3 4
   kind-is =
-      kind-of-action (kindOf word) (omega (arith, told .kind .ensures, ranged .before .if1 .left))
-      (omega (arith, told .kind .ensures, ltb-false 4 (told .kind .result) (ranged .if2 .left)))
+      sym (told .kind .ensures) ∙ kind-of-action (told .kind .result) (ranged .before .if1 .left) (ltb-false 4 (told .kind .result) (ranged .if2 .left))
 
   inside : here .loop .i < length (start .args .words .now)
   inside = told .before .before .loop-test .taken
 
-cast-held : tie.Need-cast-held Inv-loop μ-loop
-cast-held c = search needs
+device-bits-requires : tie.Need-device-bits-requires Inv-loop μ-loop
+device-bits-requires c κs = search needs
+
+cast-device : tie.Need-cast-device Inv-loop μ-loop
+cast-device c = search needs
+
+-- the device that it names
+module _ (c : tie.After-device-bits Inv-loop μ-loop) where
+  abbrev e : tie.Else3 Inv-loop μ-loop
+  e = c .before
+
+  keeps : (named (claim e) (fieldOf (word e)) < start e .args .devices) × (here e .loop .i - start e .args .from < 255) × (deviceBits (fieldOf (word e)) ≡ named (claim e) (fieldOf (word e)))
+  keeps = action-kept _ _ _ _ _ _ _ (few (here e)) (free e)
+
+  names : c .device-bits .result ≡ named (claim e) (fieldOf (word e))
+  names = c .device-bits .ensures ∙ ap deviceBits (e .before .before .before .field .ensures) ∙ keeps .2
 
 element-write-held : tie.Need-element-write-held Inv-loop μ-loop
-element-write-held c =
-    omega (arith, action-kept _ _ _ _ _ _ (free c) .0, few (here c), c .before .before .before .field .ensures)
-
-cast-claimed : tie.Need-cast-claimed Inv-loop μ-loop
-cast-claimed c = search needs
+element-write-held c = omega (arith, keeps c .0, few (here (c .before)), names c)
 
 element-write-claimed : tie.Need-element-write-claimed Inv-loop μ-loop
 element-write-claimed c = element-write-held c
@@ -139,13 +152,10 @@ loop-less c = search needs
 
 loop-again : tie.Need-loop-again Inv-loop μ-loop
 loop-again c =
-    let inv = here c .loop .inv in
-    let room : here c .loop .i - start c .args .from < 255 = action-kept _ _ _ _ _ _ (free c) .1 in (
+    let inv = here (e c) .loop .inv in (
       omega (arith, inv .0),
-      omega (arith, inv .0, room),
-      λ s o.
-          rw (c .before .before .before .field .ensures, told c .kind .ensures)
-          (one-action _ s _ _ _ _ _ o _ _ _ (inv .2 s o) (inv .0) (inside c) _ (kind-is c) (free c)),
+      omega (arith, inv .0, keeps c .1),
+      λ s o. rw (names c) (one-action _ s _ _ _ _ _ _ o _ _ _ (inv .2 s o) (inv .0) (inside (e c)) _ (kind-is (e c)) (free (e c))),
     )
 
 returns-3 : tie.Need-returns-3 Inv-loop μ-loop
@@ -168,9 +178,9 @@ read-actions-spec =
     sub-action-fault
     action-fault-requires
     returns-2
-    cast-held
+    device-bits-requires
+    cast-device
     element-write-held
-    cast-claimed
     element-write-claimed
     add-i
     loop-less

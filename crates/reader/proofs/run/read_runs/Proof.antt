@@ -19,15 +19,15 @@ read-devices-requires : tie.Need-read-devices-requires
 read-devices-requires c κs = rw nothing-yet at (c .before .before .pre)
 
 read-tasks-requires : tie.Need-read-tasks-requires
-read-tasks-requires c κs = (_, c .before .before .before .before .read-devices .ensures .0)
+read-tasks-requires c κs = c .before .before .before .before .before .read-devices .ensures .0
 
 returns : tie.Need-returns
 returns c =
-    let d = c .before .before .before .before .before in
+    let d = c .before .before .before .before .before .before in
     let words = d .before .before .before .args .words .now in
     let first = d .read-devices .ensures in
     let then = c .read-tasks .ensures in
-    (then .3 _ (first .0), stops words _ _ _ (first .1) (then .0) (then .1) (then .2))
+    (then .3, stops words _ _ _ (first .1) (then .0) (then .1) (then .2))
 
 pub read-runs-spec : {M : Type 1} → statement M
 read-runs-spec = tie.close (tie.spec read-devices-requires read-tasks-requires returns)

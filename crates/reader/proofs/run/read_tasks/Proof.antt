@@ -16,17 +16,16 @@ use Rattle.reader.proofs.run.read_tasks.Statement.{statement}
 use Rattle.reader.proofs.run.read_tasks.Tie as tie
 
 abbrev Inv-loop : tie.InvT-loop
-Inv-loop words from devices lengths₀ starts₀ held₀ claimed₀ tasks₀ i₀ lengths starts held claimed tasks i =
-    (tasks ≡ 0 → i ≡ from) × NoAction words devices tasks (at lengths (tasks - 1)) held i
-    × ((capacities : List ℕ) → Reached words (scanned devices capacities 0 lengths₀ starts₀ held₀ claimed₀) from
-    → Reached words (scanned devices capacities tasks lengths starts held claimed) i)
+Inv-loop words from devices capacities lengths₀ starts₀ held₀ claimed₀ tasks₀ i₀ lengths starts held claimed tasks i =
+    (tasks ≡ 0 → i ≡ from) × NoAction words devices capacities tasks (at lengths (tasks - 1)) held i
+    × Reached words (scanned devices capacities tasks lengths starts held claimed) i
 
 abbrev μ-loop : tie.MeasureT-loop
-μ-loop words from devices lengths₀ starts₀ held₀ claimed₀ tasks₀ i₀ lengths starts held claimed tasks i = length words - i
+μ-loop words from devices capacities lengths₀ starts₀ held₀ claimed₀ tasks₀ i₀ lengths starts held claimed tasks i = length words - i
 
 loop-holds : tie.Need-loop-holds Inv-loop μ-loop
 unfolding actionFault
-loop-holds c = ((λ e. refl), (λ h b e. omega arith), λ capacities before. before)
+loop-holds c = ((λ e. refl), (λ h b e. omega arith), c .before .pre)
 
 mul-word : tie.Need-mul-word Inv-loop μ-loop
 mul-word c = search needs
@@ -68,13 +67,9 @@ module _ (c : tie.Else2 Inv-loop μ-loop) where
   inside : here .loop .i < length words
   inside = of-kind .before .before .before .loop-test .taken
 
-  opened : (capacities : List ℕ)
-      → Reached words (scanned (start .args .devices) capacities 0 (start .args .lengths .now) (start .args .starts .now) (start .args .held .now) (start .args .claimed .now))
-      (start .args .from)
-      → Opened words (withTask (scanned (start .args .devices) capacities (here .loop .tasks) (here .loop .lengths) (here .loop .starts) (here .loop .held) (here .loop .claimed))
-      (here .loop .i)) (start .args .devices) (here .loop .tasks + 1) (here .loop .held) (here .loop .claimed) (here .loop .i + 1)
-  opened capacities before =
-      opens _ _ _ (here .loop .inv .2 capacities before) inside (sym (of-kind .before .kind .ensures) ∙ of-kind .if1 .left) free
+  opened : Opened words (withTask (scanned (start .args .devices) (start .args .capacities .now) (here .loop .tasks) (here .loop .lengths) (here .loop .starts) (here .loop .held) (here .loop .claimed))
+      (here .loop .i)) (start .args .devices) (start .args .capacities .now) (here .loop .tasks + 1) (here .loop .held) (here .loop .claimed) (here .loop .i + 1)
+  opened = opens _ _ _ (here .loop .inv .2) inside (sym (of-kind .before .kind .ensures) ∙ of-kind .if1 .left) free
 
 add-first : tie.Need-add-first Inv-loop μ-loop
 add-first c = search needs
@@ -89,7 +84,7 @@ add-read-actions : tie.Need-add-read-actions Inv-loop μ-loop
 add-read-actions c = omega (arith, room c)
 
 read-actions-requires : tie.Need-read-actions-requires Inv-loop μ-loop
-read-actions-requires c κs = let e = c .before .before in let pre = start e .pre in (_, opened e (pre .0) (pre .1))
+read-actions-requires c κs = (_, opened (c .before .before))
 
 sub-lengths : tie.Need-sub-lengths Inv-loop μ-loop
 sub-lengths c = c .read-actions .ensures .0
@@ -110,15 +105,14 @@ loop-again : tie.Need-loop-again Inv-loop μ-loop
 loop-again c =
     let e = c .before .before .before in
     let k = here e .loop in
-    let pre = start e .pre in
     let done = c .read-actions .ensures in
     let last : k .tasks + 1 - 1 ≡ k .tasks = omega arith in
-    let there : k .tasks < length (k .lengths) = rw last at (in-array _ _ _ _ _ _ _ (opened e (pre .0) (pre .1))) in
+    let there : k .tasks < length (k .lengths) = rw last at (in-array _ _ _ _ _ _ _ _ (opened e)) in
     let counted : at (set (k .lengths) (k .tasks) (c .read-actions .result - (k .i + 1))) (k .tasks + 1 - 1) ≡ c .read-actions .result - (k .i + 1) =
     rw last (getD-set-same (k .lengths) (k .tasks) (c .read-actions .result - (k .i + 1)) 0 there) in (
       (λ z. absurd (omega arith)),
       (λ h b z. rw counted (done .2 h b z)),
-      λ capacities before. rw last at (done .3 _ (opened e capacities before)),
+      rw last at (done .3 _ (opened e)),
     )
 
 returns : tie.Need-returns Inv-loop μ-loop
