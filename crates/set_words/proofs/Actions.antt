@@ -1,5 +1,5 @@
 -- The action of a word, by its kind and field.
-use Prim.Native.Nat.{ℕ, suc}
+use Prim.Native.Nat.{ℕ, suc, _<_}
 use native.Mathlib.Omega.{arith}
 use mathlib.Core.Path.{_≡_, refl, sym, _∙_}
 use mathlib.Core.Bool.{Bool, true, false, cond}
@@ -29,6 +29,14 @@ claim-kind w = is-claim (eqb (kindOf w) CLAIM) (fieldOf w)
 pub device-field : (w : ℕ) → deviceOf (actionOf w) ≡ cond (isClaim (actionOf w)) (deviceBits (fieldOf w)) (fieldOf w)
 unfolding actionOf
 device-field w = rw (claim-kind w) (names (eqb (kindOf w) CLAIM) (fieldOf w))
+
+-- a device below 16 is in the lowest bits of its word, whatever the action
+pub device-low : (w : ℕ) → deviceOf (actionOf w) < 16 → deviceBits w ≡ deviceOf (actionOf w)
+device-low w h = low (isClaim (actionOf w)) refl
+  where
+    low : (b : Bool) → b ≡ isClaim (actionOf w) → deviceBits w ≡ deviceOf (actionOf w)
+    low true e = let d : deviceOf (actionOf w) ≡ deviceBits (fieldOf w) = device-field w ∙ rw (sym e) in omega arith
+    low false e = let d : deviceOf (actionOf w) ≡ fieldOf w = device-field w ∙ rw (sym e) in omega arith
 
 -- the extra units of a word are those of its field
 extra-field : (w : ℕ) → extraBits (fieldOf w) ≡ extraBits w

@@ -59,6 +59,14 @@ fn extra_units(word: u32) -> u32
     word / model::DEVICES % model::EXTRA_UNITS
 }
 
+// The same of an action of a set, in one step: no device of a set has a bit above a CLAIM's, so a RELEASE's field has none either. For the passes that do it at every state.
+pub fn device_in_set(word: u32) -> u32
+    requires { ⌜ deviceOf (actionOf word) < 16 ⌝ }
+    ensures { λ r. ⌜ r ≡ deviceOf (actionOf word) ⌝ }
+{
+    device_bits(word)
+}
+
 // The units that a CLAIM takes, by its word or its field. They can be 256, one more than a byte holds.
 pub fn units(word: u32) -> u32
     ensures { λ r. ⌜ r ≡ suc (extraBits word) ⌝ }
