@@ -58,7 +58,7 @@ pub const MERGED: u32 = 15;
 
 // Sixteen bytes without a gap: the kind; the refusal's number, 0 without one; the value, 0 without one.
 #[repr(C)]
-#[derive(Drop)]
+#[derive(Clone, Copy)]
 pub struct Answer {
     pub kind: u32,
     pub refusal: u32,
@@ -68,7 +68,7 @@ pub struct Answer {
 // What an analysis answers: twenty-four bytes without a gap. Beside the answer stand the quotient and the remainder of 1,000 times the unsafe states divided by the
 // permitted ones; both are 0 in a refused one.
 #[repr(C)]
-#[derive(Drop)]
+#[derive(Clone, Copy)]
 pub struct Analysis {
     pub answer: Answer,
     pub quotient: u32,
@@ -78,7 +78,7 @@ pub struct Analysis {
 // What a trial answers: a hundred and fifty-two bytes without a gap. Beside the answer stand a row for each task and the bids answered Finished, all 0 in a refused
 // one.
 #[repr(C)]
-#[derive(Drop)]
+#[derive(Clone, Copy)]
 pub struct Trial {
     pub answer: Answer,
     pub rows: [Tally; model::MAX_TASKS],

@@ -1,5 +1,7 @@
 // The arbiter's calls for hosts in C, C++ and Rust (include/arbiter.h has them for C). Each hands its library call on, and no host owes it anything but the slices
 // and the record themselves.
+#![tactic(auto)]
+
 mod answers;
 
 ghost use Rattle.std.specs.Prelude.{◌≡◌};
@@ -22,7 +24,7 @@ use records::Record;
 
 // The state that a plan is asked about: eight positions, those past the task count unread.
 #[repr(C)]
-#[derive(Drop)]
+#[derive(Clone, Copy)]
 pub struct State {
     pub positions: [u8; model::MAX_TASKS],
 }

@@ -1,4 +1,6 @@
 // The broker: the calls bid and again, on a record by value and in place.
+#![tactic(auto)]
+
 mod agains;
 mod bids;
 mod by_map;
@@ -14,13 +16,13 @@ use records::Record;
 pub use shares::allowed;
 
 // What a bid brings: each task's share of a window's grants, and how many grants a window has.
-#[derive(Drop)]
+#[derive(Clone, Copy)]
 pub struct Settings {
     pub share: u32,
     pub window: u32,
 }
 
-#[derive(Drop)]
+#[derive(Clone, Copy)]
 pub enum BidAnswer {
     Granted,
     Finished,
@@ -33,7 +35,7 @@ pub enum BidAnswer {
     Refused { number: u8, place: usize },
 }
 
-#[derive(Drop)]
+#[derive(Clone, Copy)]
 pub enum AgainAnswer {
     Restarted,
     // The refusal's number and place.
@@ -41,14 +43,14 @@ pub enum AgainAnswer {
 }
 
 // The answer of a bid beside the record that it leaves.
-#[derive(Drop)]
+#[derive(Clone, Copy)]
 pub struct ServedBid {
     pub answer: BidAnswer,
     pub after: Record,
 }
 
 // The answer of an again beside the record that it leaves.
-#[derive(Drop)]
+#[derive(Clone, Copy)]
 pub struct ServedAgain {
     pub answer: AgainAnswer,
     pub after: Record,

@@ -1,6 +1,8 @@
 // The program `clean`: reads a set from standard input and writes it without the devices that no task claims, four bytes a word, or the refusal's line (SCOPE.md,
 // "Cleaner"). It only reads, calls and writes: what is written for which bytes is `cleaning::clean_file`'s contract. A read or a write that fails is told on
 // standard error.
+#![tactic(auto)]
+
 use libc::{STDERR_FILENO, STDOUT_FILENO};
 use program::Asked;
 

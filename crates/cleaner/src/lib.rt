@@ -1,4 +1,6 @@
 // The cleaner: a set without the devices that no task claims, which the former rules let stand. The other devices keep their order and are numbered anew.
+#![tactic(auto)]
+
 ghost use Rattle.std.specs.Prelude.{◌≡◌, ◌≤◌, length};
 ghost use Rattle.model.specs.Slice.{over};
 ghost use Rattle.model.specs.Clean as model;
@@ -8,14 +10,14 @@ ghost use Rattle.cleaner.specs.Numbers.{Numbers, NumbersAre, clean_words, Accept
 use reader::Verdict;
 use shape::Shape;
 
-#[derive(Drop)]
+#[derive(Clone, Copy)]
 pub enum CleanAnswer {
     Cleaned { words: usize },
     Refused { number: u8, place: usize },
 }
 
 // The new number of each device, and how many are kept.
-#[derive(Drop)]
+#[derive(Clone, Copy)]
 struct Numbering {
     numbers: [u8; model::MAX_DEVICES],
     count: usize,

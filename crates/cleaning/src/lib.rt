@@ -1,4 +1,6 @@
 // The work of the program `clean`: from the bytes of a set's file to those of the cleaned set's, in a lent slice.
+#![tactic(auto)]
+
 ghost use Rattle.std.specs.Prelude.{◌≡◌, ◌≤◌, length};
 ghost use Rattle.model.specs.Answer.{◌then◌};
 ghost use Rattle.model.specs.Layout.{former};

@@ -1,4 +1,6 @@
 // What the programs write to standard output: text, numbers, refusals, and the answers of the calls; and the states that they ask about.
+#![tactic(auto)]
+
 mod states;
 
 use analysis::Outcome;

@@ -51,7 +51,7 @@ const MAX_ROUTE: usize = text::ROW;
 const ROUNDS_LIMIT: u32 = 0x1_0000;
 
 // A call: its kind and three values.
-#[derive(Drop)]
+#[derive(Clone, Copy)]
 struct Call {
     kind: u32,
     a: u32,
@@ -61,7 +61,7 @@ struct Call {
 
 // What the calls of a case go on with: how many words the set has, the record, how much of the map is lent, how much of the plan slice is the stored plan, and how much
 // of its own slice the order is.
-#[derive(Drop)]
+#[derive(Clone, Copy)]
 struct Play {
     words: usize,
     rec: Record,

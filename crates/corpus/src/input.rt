@@ -5,7 +5,7 @@ use libc::STDIN_FILENO;
 pub const CALL_WORDS: usize = 4;
 
 // How many words the set has and how many the calls, and the lengths of the slices.
-#[derive(Drop)]
+#[derive(Clone, Copy)]
 pub struct Header {
     pub set_words: usize,
     pub call_words: usize,

@@ -1,4 +1,6 @@
 // Plays the cases of standard input and prints what every call answers; the head of tests/make_corpus.py has the format of both.
+#![tactic(auto)]
+
 mod calls;
 mod cases;
 mod input;

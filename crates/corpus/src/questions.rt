@@ -6,7 +6,7 @@ use listing::least;
 use plan_reader::Located;
 
 // What a sweep shows of a state: whether it lies in no box, in a forbidden or an unsafe one, and with what index; what it shows of a refusal, and its place.
-#[derive(Drop)]
+#[derive(Clone, Copy)]
 struct Spot {
     mark: u8,
     index: usize,

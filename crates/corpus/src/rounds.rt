@@ -7,7 +7,7 @@ use records::Record;
 const TASK_DIGIT: u32 = 16;
 
 // How the bids of rounds were answered.
-#[derive(Drop)]
+#[derive(Clone, Copy)]
 struct Tally {
     granted: usize,
     finished: usize,
@@ -18,7 +18,7 @@ struct Tally {
 }
 
 // The bids of a round: those of the first `count` digits of `tasks`, with the same settings.
-#[derive(Drop)]
+#[derive(Clone, Copy)]
 pub struct Bids {
     pub tasks: u32,
     pub count: u8,
@@ -26,7 +26,7 @@ pub struct Bids {
 }
 
 // Rounds so far: the record and the tally.
-#[derive(Drop)]
+#[derive(Clone, Copy)]
 struct Rounds {
     rec: Record,
     tally: Tally,

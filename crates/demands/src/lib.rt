@@ -1,1 +1,2 @@
 // Theorems and no code: specs/ states them, proofs/ proves them.
+#![tactic(auto)]

@@ -1,4 +1,6 @@
 // Calls of the desk examples and refusals (SCOPE.md, "Desk examples", "Refusals"), made by a running program: one line a fact, held to the file `stdout`.
+#![tactic(auto)]
+
 mod calls;
 mod lines;
 mod long;

@@ -11,7 +11,7 @@ use model::MAX_TASKS;
 use plan_words::Placed;
 
 // What a device's boxes have in common: their first word, and the capacity that each exceeds.
-#[derive(Drop)]
+#[derive(Clone, Copy)]
 pub(crate) struct Limit {
     pub(crate) header: u32,
     pub(crate) capacity: u8,

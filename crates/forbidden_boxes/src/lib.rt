@@ -1,4 +1,6 @@
 // The forbidden boxes of a set, written to a plan in order (SCOPE.md, "Forbidden boxes").
+#![tactic(auto)]
+
 mod choices;
 mod rows;
 mod sets;

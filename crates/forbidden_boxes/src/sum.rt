@@ -3,7 +3,7 @@ ghost use Rattle.std.specs.Prelude.{◌≡◌, ◌&&◌, ℕ, min, ◌+◌, ◌�
 ghost use Rattle.forbidden_boxes.specs.Choices.{sum_with, least_with, just_over};
 
 // The units of the holds chosen so far: all of them, and the fewest of one hold.
-#[derive(Drop)]
+#[derive(Clone, Copy)]
 pub(crate) struct Sum {
     pub(crate) all: u32,
     pub(crate) least: u8,
@@ -34,7 +34,7 @@ pub(crate) fn with_side(sum: Sum, mask: u32, units: u8) -> Sum
 }
 
 // The units of one hold more with which a choice just exceeds the capacity: more than `above`, `upto` at most.
-#[derive(Drop)]
+#[derive(Clone, Copy)]
 pub(crate) struct Missing {
     pub(crate) above: u32,
     pub(crate) upto: u32,

@@ -1,4 +1,6 @@
 // Words out of a file's bytes, and their bytes again; words and refusals as text.
+#![tactic(auto)]
+
 mod text;
 
 ghost use Rattle.std.specs.Prelude.{◌≡◌, ◌/◌, ◌<◌, min, length, take};
@@ -19,7 +21,7 @@ pub const MAX_BYTES: usize = model::MAX_WORDS * WORD_BYTES;
 // One byte more than a set's file may have is read, to tell that there are too many.
 pub const INPUT: usize = MAX_BYTES + 1;
 
-#[derive(Drop)]
+#[derive(Clone, Copy)]
 pub enum Decoded {
     Words(usize),
     Refused { number: u8, place: usize },

@@ -1,4 +1,6 @@
 // The merge: two sets as one. Their first so many devices are the same ones, the second set's others follow the first's, and its tasks come after the first's.
+#![tactic(auto)]
+
 mod reading;
 mod writing;
 
@@ -12,7 +14,7 @@ ghost use Rattle.merge.specs.Sets.{Accepted};
 use reader::Verdict;
 use shape::Shape;
 
-#[derive(Drop)]
+#[derive(Clone, Copy)]
 pub enum MergeAnswer {
     Merged { words: usize },
     Refused { number: u8, place: usize },

@@ -37,7 +37,7 @@ prefixed-mem (h ∷ hs) cs m =
     let r = prefixed-mem hs cs n in
     record { first = r.first; rest = r.rest; is = r.is; first-in = Memᴰ.tail r.first-in; rest_in = r.rest_in })
 
-pub mem-prefixed : {hs : List Hold} {cs : List Choice} {h : Hold} {c : Choice} → Memᴰ h hs → Memᴰ c cs → Memᴰ (h ∷ c) (prefixed hs cs)
+pub mem-prefixed : {h : Hold} {hs : List Hold} {cs : List Choice} {c : Choice} → Memᴰ h hs → Memᴰ c cs → Memᴰ (h ∷ c) (prefixed hs cs)
 unfolding prefixed
 mem-prefixed {cs} {c} (Memᴰ.head {x} {xs} e) n = Memᴰ.append_left (prefixed xs cs) (Memᴰ.cast (ap (λ h. h ∷ c) e) (Memᴰ.map (λ c. x ∷ c) n))
 mem-prefixed {cs} (Memᴰ.tail {x} {xs} m) n = Memᴰ.append_right (map (λ c. x ∷ c) cs) (mem-prefixed m n)
@@ -51,7 +51,7 @@ module _ (d : ℕ) where
       by_cases (Memᴰ.append_cases (choices_of d m tasks) i) (λ j. (m, Memᴰ.head refl, j)) λ j.
       let r = all-mem cs tasks j in (r.0, Memᴰ.tail r.1, r.2)
 
-  pub mem-all : {cs : List TaskSet} (tasks : List Task) {m : TaskSet} {c : Choice} → Memᴰ m cs → Memᴰ c (choices_of d m tasks)
+  pub mem-all : (tasks : List Task) {m : TaskSet} {cs : List TaskSet} {c : Choice} → Memᴰ m cs → Memᴰ c (choices_of d m tasks)
       → Memᴰ c (choices_of_all d cs tasks)
   unfolding choices_of_all
   mem-all tasks (Memᴰ.head {x} {xs} e) j = Memᴰ.append_left (choices_of_all d xs tasks) (rw e at j)
@@ -146,7 +146,7 @@ boxes-choice s (c ∷ cs) x e =
     let r = boxes-choice s cs x i in (r.0, Memᴰ.tail r.1, r.2, r.3))
     (λ k. let r = boxes-choice s cs x (rw k at e) in (r.0, Memᴰ.tail r.1, r.2, r.3))
 
-pub choice-boxes : (s : ℕ) {cs : List Choice} (x : State) {c : Choice} → Memᴰ c cs → just_exceeds s c ≡ true → inside (box_of c) x ≡ true
+pub choice-boxes : (s : ℕ) (x : State) {c : Choice} {cs : List Choice} → Memᴰ c cs → just_exceeds s c ≡ true → inside (box_of c) x ≡ true
     → covered (boxes_of s cs) x ≡ true
 unfolding boxes_of covered
 choice-boxes s x {c} (Memᴰ.head {x = b} {xs} q) e i =

@@ -21,7 +21,7 @@ use Rattle.model.proofs.Choices.{prefixed-mem, mem-prefixed, all-mem, mem-all, t
 use Rattle.model.proofs.Permitted.{not-permitted}
 
 -- a hold over p takes at most the units held at p
-units-le : {hs : List Hold} (p : ℕ) {h : Hold} → Memᴰ h hs → within h.over p ≡ true → h.units ≤ units_at hs p
+units-le : (p : ℕ) {h : Hold} {hs : List Hold} → Memᴰ h hs → within h.over p ≡ true → h.units ≤ units_at hs p
 unfolding units_at
 units-le p {h} (Memᴰ.head {x = k} {xs} e) w =
     let u : h.units ≡ k.units = ap (λ (i : Hold). i.units) e in

@@ -1,4 +1,5 @@
 // The numbers of docs/SCOPE.md, by name. What they mean stands in specs/, and the theorems on it in proofs/.
+#![tactic(auto)]
 
 // The version of all that is built from here: major times 10,000, minor times 100, patch. CHANGELOG.md says what moves which.
 pub const VERSION: u32 = 60100;

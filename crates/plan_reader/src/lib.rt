@@ -1,4 +1,6 @@
 // Questions to a stored plan, without its set: where a state lies, or the first word outside the layout.
+#![tactic(auto)]
+
 mod seen;
 mod walk;
 mod words;
@@ -7,7 +9,7 @@ ghost use Rattle.std.specs.Prelude.{◌≡◌};
 ghost use Rattle.model.specs.StoredPlan as model;
 ghost use Rattle.plan_reader.specs.Says.{answer_of};
 
-#[derive(Drop)]
+#[derive(Clone, Copy)]
 pub enum Located {
     // The index of the first word of the first such box that holds the state.
     Forbidden { index: usize },

@@ -10,7 +10,7 @@ pub(crate) const NOTHING: u32 = 0;
 
 const OUTSIDE: u32 = 1;
 
-#[derive(Drop)]
+#[derive(Clone, Copy)]
 pub(crate) struct Seen {
     // Whether more words are wanted.
     pub(crate) going: bool,

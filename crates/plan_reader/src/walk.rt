@@ -7,7 +7,7 @@ use crate::seen::Seen;
 use crate::{seen, words};
 
 // The words of a plan, and the index of the next one.
-#[derive(Drop)]
+#[derive(Clone, Copy)]
 pub(crate) struct PlanWords<'a> {
     pub(crate) words: &'a [u32],
     pub(crate) at: usize,

@@ -1,5 +1,7 @@
 // The words of a plan: how each kind but END is made and a side's word taken apart, which no other code knows, and the writing of words and boxes. For the crates that write
 // plans, and the one that reads them.
+#![tactic(auto)]
+
 ghost use Rattle.std.specs.Prelude.{◌≡◌, cond, [], ◌∷◌, ◌≤◌, ◌<◌, length, take, set, eqb};
 ghost use Rattle.model.specs.Layout.{word};
 ghost use Rattle.model.specs.Hold.{within};
@@ -20,7 +22,7 @@ const TASK_UNIT: u32 = 65536;
 const LOW_UNIT: u32 = 256;
 
 // What became of words to write: the place after them, or that they don't fit.
-#[derive(Drop)]
+#[derive(Clone, Copy)]
 pub enum Placed {
     Next(usize),
     Full,

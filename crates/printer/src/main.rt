@@ -1,5 +1,7 @@
 // The printer: reads a set from standard input and prints its plan, a word a line, or the refusal (SCOPE.md, "Printer"). It only reads, calls and writes: what is
 // printed of which bytes is `printing::print`'s contract. A read or a write that fails is told on standard error.
+#![tactic(auto)]
+
 use libc::{STDERR_FILENO, STDOUT_FILENO};
 use program::Asked;
 

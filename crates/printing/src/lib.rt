@@ -1,4 +1,6 @@
 // The printer's work: from the bytes of a set's file to the text that is printed, in a lent slice.
+#![tactic(auto)]
+
 ghost use Rattle.std.specs.Prelude.{◌≡◌, ◌≤◌, length};
 ghost use Rattle.model.specs.Answer.{◌then◌};
 ghost use Rattle.model.specs.Read.{read};

@@ -1,5 +1,5 @@
 // What a program is asked for by its arguments.
-#[derive(Drop)]
+#[derive(Clone, Copy)]
 pub enum Asked {
     // No argument.
     Work,

@@ -1,4 +1,6 @@
 // What the programs that read a file have in common: what they are asked for, numbers among it, standard input read to its end, a write that failed, and their version.
+#![tactic(auto)]
+
 mod arguments;
 mod input;
 mod numbers;

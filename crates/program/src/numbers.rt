@@ -1,7 +1,7 @@
 // A number in an argument.
 ghost use Rattle.std.specs.Prelude.{◌≤◌};
 
-#[derive(Drop)]
+#[derive(Clone, Copy)]
 pub enum Number {
     // In decimal, of at most 32 bits.
     Is(u32),

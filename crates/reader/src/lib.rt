@@ -1,5 +1,7 @@
 // Reads a set of devices and tasks from its words, or refuses it at the first word with a fault. By the former rules too, which let a device stand that no task
 // claims.
+#![tactic(auto)]
+
 mod faults;
 mod rules;
 mod run;
@@ -23,14 +25,14 @@ pub const PRESENT: bool = true;
 
 pub const FORMER: bool = false;
 
-#[derive(Drop)]
+#[derive(Clone, Copy)]
 pub enum Verdict {
     Accepted,
     Refused { number: u8, place: usize },
 }
 
 // The answer: the set's shape, and which of its devices some task claims. A refused set has those of the empty one.
-#[derive(Drop)]
+#[derive(Clone, Copy)]
 pub struct Reading {
     pub verdict: Verdict,
     pub shape: Shape,

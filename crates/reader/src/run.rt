@@ -9,14 +9,14 @@ use crate::faults;
 use crate::scan::Scan;
 
 // What was read in a row: the scan after it, and the index of the next word.
-#[derive(Drop)]
+#[derive(Clone, Copy)]
 pub(crate) struct Run {
     pub(crate) index: usize,
     pub(crate) scan: Scan,
 }
 
 // The tasks read in a row: how many, and the index of the next word.
-#[derive(Drop)]
+#[derive(Clone, Copy)]
 pub(crate) struct Tasks {
     pub(crate) count: usize,
     pub(crate) index: usize,

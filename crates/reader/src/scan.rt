@@ -5,7 +5,7 @@ ghost use Rattle.reader.specs.Follow.{scan_of};
 
 // The devices and tasks of the words so far; entries of the arrays past the counts are 0. `held` says what the last task holds, `claimed` which devices some
 // task has claimed.
-#[derive(Drop)]
+#[derive(Clone, Copy)]
 pub(crate) struct Scan {
     pub(crate) devices: usize,
     pub(crate) capacities: [u8; model::MAX_DEVICES],

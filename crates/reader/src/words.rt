@@ -6,7 +6,7 @@ use crate::scan::Scan;
 use crate::{faults, run, scan};
 
 // What the words come to: NO_FAULT and the scan of a set that its END closed, or the first fault's number and place.
-#[derive(Drop)]
+#[derive(Clone, Copy)]
 pub(crate) struct Words {
     pub(crate) fault: u8,
     pub(crate) place: usize,

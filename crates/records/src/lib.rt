@@ -1,4 +1,6 @@
 // The broker's record, and what every call on a record finds out first: whether the map is too short, whether the record fits the set, and the rank of its state.
+#![tactic(auto)]
+
 mod counts;
 
 ghost use Rattle.std.specs.Prelude.{◌≡◌, ℕ, ◌<◌, ltb, List, length, nat_lt};
@@ -14,7 +16,7 @@ use shape::Shape;
 
 // Each task's position, the grant number, and each task's grants in the present window, 0 for absent tasks: twenty bytes, laid out as C does, since hosts keep it.
 #[repr(C)]
-#[derive(Drop)]
+#[derive(Clone, Copy)]
 pub struct Record {
     pub positions: [u8; model::MAX_TASKS],
     pub grants: u32,

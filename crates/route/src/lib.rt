@@ -1,4 +1,6 @@
 // A route: from the open state in a record to the end, one byte a step, always the smallest task whose step lands on an open state's byte.
+#![tactic(auto)]
+
 ghost use Rattle.std.specs.Prelude.{◌≡◌, List, ℕ, length, replicate, take};
 ghost use Rattle.model.specs.Answer.{refused};
 ghost use Rattle.model.specs.Set.{Set, size};
@@ -16,14 +18,14 @@ use shape::Shape;
 // What a refused route leaves in every byte of its slice.
 pub const NO_STEP: u8 = 255;
 
-#[derive(Drop)]
+#[derive(Clone, Copy)]
 pub enum RouteAnswer {
     Steps { count: usize },
     Refused { number: u8, place: usize },
 }
 
 // Where a walk stops: after how many steps, and at which rank.
-#[derive(Drop)]
+#[derive(Clone, Copy)]
 struct Stop {
     steps: usize,
     rank: usize,

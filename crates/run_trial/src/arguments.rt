@@ -18,7 +18,7 @@ const MAX_ROUNDS: u32 = 0xFFFF;
 // Room for a number; a longer argument is none.
 const LONGEST: usize = 16;
 
-#[derive(Drop)]
+#[derive(Clone, Copy)]
 pub enum Wanted {
     Trial { rounds: u16, settings: Settings },
     // An argument can't be taken, which was said.

@@ -1,6 +1,8 @@
 // The program `run_trial`: reads a set from standard input, tries a share and a window on it down an order of tasks, and prints a table of what the bids were
 // answered, or the refusal (SCOPE.md, "Trial"). It only reads, calls and writes: what is tallied is `trial::trial`'s contract. Arguments that can't be taken, and
 // a read or a write that fails, are told on standard error.
+#![tactic(auto)]
+
 mod arguments;
 mod orders;
 mod table;

@@ -17,7 +17,7 @@ const TEXT: usize = 4096;
 const LARGEST: u32 = 255;
 
 // How many places were read, and whether the argument is no order.
-#[derive(Drop)]
+#[derive(Clone, Copy)]
 pub struct Order {
     pub count: usize,
     pub wrong: bool,

@@ -1,4 +1,6 @@
 // The words of a set, made and taken apart: no other code knows their bits.
+#![tactic(auto)]
+
 ghost use Rattle.std.specs.Prelude.{◌≡◌, suc, ◌<◌};
 ghost use Rattle.model.specs.Set.{device_of, is_claim};
 ghost use Rattle.model.specs.Layout.{word, kind_of, field_of, device_bits, extra_bits, DEVICE, END, action_word, action_of};

@@ -1,5 +1,7 @@
 // The words of a set, written into a lent slice one part after the other: DEVICEs, words of another set as they are, tasks with other numbers for the devices,
 // END. For the calls that make a set out of sets; each part is written from an index on, and answers the index after it.
+#![tactic(auto)]
+
 ghost use Rattle.std.specs.Prelude.{◌≡◌, true, false, cond, [], ◌∷◌, map, ◌+◌, ◌<◌, ◌≤◌, length, get_or, take, set};
 ghost use Rattle.model.specs.Below.{how_many};
 ghost use Rattle.model.specs.Slice.{write};

@@ -1,5 +1,7 @@
 // The shape of a set: what an accepted list of words declares, by value. The reader makes it, and every layer above takes it beside the words.
-#[derive(Drop)]
+#![tactic(auto)]
+
+#[derive(Clone, Copy)]
 pub struct Shape {
     pub devices: usize,
     // The entries of the arrays past the counts are 0.

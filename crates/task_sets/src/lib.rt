@@ -1,4 +1,6 @@
 // The non-empty sets of eight tasks, each worked out from the one before, and the tests of a set's size. A set is a mask with bit i for task i.
+#![tactic(auto)]
+
 ghost use Rattle.std.specs.Prelude.{◌≡◌, ℕ, ◌+◌, ◌-◌, ◌*◌, ◌^◌, ◌≤◌, ◌<◌, ltb};
 ghost use Rattle.std.specs.Int.Count.{ones};
 ghost use Rattle.task_sets.specs.Next.{follow, next};

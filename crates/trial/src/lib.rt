@@ -1,4 +1,6 @@
 // Trying settings before a shift: a fresh broker's answers to an order of tasks that bids round after round, counted.
+#![tactic(auto)]
+
 mod bidding;
 mod orders;
 mod tallies;
@@ -17,7 +19,7 @@ use reader::Verdict;
 use shape::Shape;
 pub use tallies::Tally;
 
-#[derive(Drop)]
+#[derive(Clone, Copy)]
 pub enum TrialAnswer {
     // How many bids were made.
     Tried { made: u32 },
@@ -26,7 +28,7 @@ pub enum TrialAnswer {
 }
 
 // The answer, a row for each task and the bids answered Finished; a refused trial has rows of 0 and 0.
-#[derive(Drop)]
+#[derive(Clone, Copy)]
 pub struct TrialResult {
     pub answer: TrialAnswer,
     pub rows: [Tally; model::MAX_TASKS],

@@ -10,7 +10,7 @@ use broker::BidAnswer;
 
 // Laid out as C does, since hosts get it.
 #[repr(C)]
-#[derive(Drop)]
+#[derive(Clone, Copy)]
 pub struct Tally {
     pub granted: u32,
     pub busy: u32,
