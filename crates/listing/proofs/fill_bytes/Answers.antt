@@ -1,0 +1,22 @@
+-- `listing::fill_bytes` meets its contract. The invariant: the bytes of the first k words are written at the front of the slice.
+-- Assumes nothing.
+use mathlib.Core.Path.{sym, ap}
+use Prim.Native.Nat.{◌-◌, ◌≤◌}
+use native.Mathlib.Omega.{arith}
+use lib.ListN.{length}
+use borrow.Author.Rules.{rules}
+use Rattle.model.specs.CleanFile.{bytes_of_all}
+use Rattle.model.proofs.Rows.{fours}
+use Rattle.listing.proofs.Rows.{Filled, none_filled, one-filled, all-filled}
+use Rattle.listing.proofs.fill_bytes.Goals as goal
+
+pub loop-k-init : goal.loop-k-init
+loop-k-init c = let a = c.args in (omega arith, none_filled fours a.words.now a.out.now)
+
+pub loop-k-preserved : goal.loop-k-preserved
+loop-k-preserved c =
+    let bytes = c.word_bytes-bytes in
+    let a = c.args in
+    let o = c.loop-k in
+    let p = c.put in
+    (omega arith, one-filled fours a.words.now a.out.now _ _ _ o.k (omega arith) (omega arith) o.invariant.1 bytes.ensures p.auto.1.0 p.ensures.out_after)

@@ -1,0 +1,23 @@
+-- `reader::faults::held_fault` meets its contract: the rule and the kind pick the number.
+use borrow.Author.Rules.{rules}
+use borrow.Author.Tests.{not-true, not-false}
+use mathlib.Core.Path.{◌≡◌, sym, ◌∙◌}
+use mathlib.Core.Bool.{true, beq}
+use Rattle.reader.specs.Faults.{held_fault}
+use Rattle.reader.proofs.faults.held_fault.Goals.{Else-not-conflicts}
+use Rattle.reader.proofs.faults.held_fault.Goals as goal
+
+broken : (c : Else-not-conflicts) → let a = c.args in beq a.held a.claim ≡ true
+broken c = sym c.conflicts.ensures ∙ c.if-not-conflicts.false
+
+pub returns-then-not-conflicts : goal.returns-then-not-conflicts
+unfolding held_fault
+returns-then-not-conflicts c = rw (sym c.conflicts.ensures ∙ c.if-not-conflicts.true)
+
+pub returns-then-claim : goal.returns-then-claim
+unfolding held_fault
+returns-then-claim c = rw (broken (goal.at.returns-then-claim c).Else-not-conflicts, c.if-claim.true)
+
+pub returns : goal.returns
+unfolding held_fault
+returns c = rw (broken (goal.at.returns c).Else-not-conflicts, c.if-claim.false)
