@@ -40,7 +40,7 @@ REFUSALS = """
 ANSWER_KINDS = """
     REFUSED ACCEPTED PLANNED ROUTED GRANTED FINISHED BUSY HELD RESTARTED IN_FORBIDDEN_BOX IN_UNSAFE_BOX IN_NO_BOX CLEANED SHARE_SPENT TRIED MERGED
     """.split()
-VERSION = {"VERSION": 60100}
+VERSION = {"VERSION": 60000}
 
 # What hosts use and the proved source doesn't know: in the header, and in the package's plain.rs.
 OF_HOSTS = {"NOT_ANALYSED": 0xFF}

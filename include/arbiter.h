@@ -35,7 +35,7 @@
 
 /* The version of this header: major times 10,000, minor times 100, patch. Header and library must be of the same one, since structs and
  * numbers may differ between two: compare it with arbiter_version() once, when the host starts, and stop if they differ. */
-#define ARBITER_VERSION 60100
+#define ARBITER_VERSION 60000
 
 /* The limits of a set. */
 #define ARBITER_MAX_WORDS 4096

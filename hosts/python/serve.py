@@ -8,7 +8,7 @@ import sys
 from ctypes import POINTER, c_char_p, c_size_t, c_uint8, c_uint16, c_uint32, c_uint64
 
 # The numbers of include/arbiter.h that are used here.
-VERSION = 60100
+VERSION = 60000
 MAX_WORDS = 4096
 MAX_SETTING = 255
 NOT_ANALYSED = 0xFF

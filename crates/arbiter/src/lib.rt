@@ -14,9 +14,9 @@ ghost use Rattle.model.specs.StoredPlan.{locate};
 ghost use Rattle.model.specs.Clean as model-clean;
 ghost use Rattle.model.specs.Merge as model-merge;
 ghost use Rattle.model.specs.Trial as model-trial;
-ghost use Rattle.model.specs.Told.{VERSION, tell_reading, tell_bid, tell_again, tell_location, tell_cleaned, tell_merged, tell_trial};
+ghost use Rattle.model.specs.Told.{VERSION, tell_reading, tell_bid, tell_again, tell_location, tell_trial};
 ghost use Rattle.records.specs.Says.{record_of};
-ghost use Rattle.arbiter.specs.Told.{struct_of, trial_struct, ToldAnalysis, ToldServed, ToldRoute, ToldWritten};
+ghost use Rattle.arbiter.specs.Told.{struct_of, trial_struct, ToldAnalysis, ToldServed, ToldRoute, ToldCleaned, ToldMerged};
 
 use answers::{Analysis, Answer, Trial};
 use broker::Settings;
@@ -109,7 +109,7 @@ pub extern "C" fn arbiter_locate(state: State, plan: &[u32], tasks: usize) -> An
 // A set without the devices that no task claims, read by the former rules.
 #[unsafe(no_mangle)]
 pub extern "C" fn arbiter_clean(set: &[u32], clean: &mut [u32]) -> Answer
-    ensures { ToldWritten tell_cleaned result clean.new (model-clean.clean set.now clean.old) }
+    ensures { ToldCleaned result clean.new (model-clean.clean set.now clean.old) }
 {
     answers::of_cleaned(cleaner::clean(set, clean))
 }
@@ -122,7 +122,7 @@ pub extern "C" fn arbiter_merge(
     shared: usize,
     merged: &mut [u32],
 ) -> Answer
-    ensures { ToldWritten tell_merged result merged.new
+    ensures { ToldMerged result merged.new
         (model-merge.merge first.now second.now shared merged.old) }
 {
     answers::of_merged(merge::merge(first, second, shared, merged))

@@ -4,17 +4,19 @@ use mathlib.Core.Path.{◌≡◌, sym, ap, ◌∙◌}
 use mathlib.Core.List.{List}
 use lib.ListN.{length}
 use borrow.Author.Tests.{lt-ltb, le-ltb}
-use Rattle.model.specs.Answer.{given, refused, ◌then◌, if_given, Written, in_slice}
+use Rattle.model.specs.Answer.{given, refused, ◌then◌, if_given}
 use Rattle.model.specs.Slice.{over}
 use Rattle.model.specs.Set.{Set}
 use Rattle.model.specs.Layout.{former, encode}
 use Rattle.model.specs.Read.{Reading, read_by}
-use Rattle.model.specs.Clean.{cleaned, clean_fits, clean}
+use Rattle.model.specs.Clean.{cleaned, clean_fits, Cleaned, clean}
 use Rattle.cleaner.specs.Numbers.{former_set, clean_words}
 
 -- what becomes of a reading in a slice
-abbrev made : Reading → List ℕ → Written
-made x slice = in_slice (x then clean_fits slice) slice
+abbrev made : Reading → List ℕ → Cleaned
+made x slice =
+    let fitting = x then clean_fits slice in
+    record { answer = fitting then λ ws. given (length ws); slice = if_given fitting (λ ws. over ws slice) slice }
 
 module _ (s : Set) (slice : List ℕ) where
   short-made : length slice < length (encode (cleaned s)) → record { answer = refused 25 (length (encode (cleaned s))); slice = slice } ≡ made (given s) slice

@@ -30,7 +30,7 @@ use Rattle.model.specs.Broker.{
   grant_count,
   round_calls,
 }
-use Rattle.model.specs.Route.{walk, steps_from, walked, route_from, route_steps, route_fits, route}
+use Rattle.model.specs.Route.{steps_from, walked, route_from, route_steps, route_fits, route}
 use Rattle.model.proofs.Bools.{by_bool}
 use Rattle.model.proofs.Sums.{sum-le}
 use Rattle.model.proofs.ReadExact.{read-sound}

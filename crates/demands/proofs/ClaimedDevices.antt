@@ -10,7 +10,6 @@ use lib.ListN.{length, get_or}
 use lib.Dec.{eqb, ltb}
 use borrow.Author.Tests.{eqb-true, eq-eqb, ltb-true, ltb-false, not-true, not-false}
 use Rattle.model.specs.Set.{claim, release, Task, Set, claims, claimed}
-use Rattle.model.specs.Below.{lowest}
 use Rattle.model.specs.Read.{first_unclaimed}
 use Rattle.model.proofs.Bools.{by_bool, by_cases, true-not-false, or-true, or_right}
 use Rattle.model.proofs.Counts.{lowest-passes, below-lowest, is-lowest}

@@ -13,8 +13,8 @@ use Rattle.demands.specs.Reading.{word_of, words_of}
 use Rattle.demands.specs.Analyses.{sides_from, list_of}
 
 -- the same word, and then the same list
-infixr 60 ◌and-then◌
-◌and-then◌ : {w v : ℕ} {l m : List ℕ} → w ≡ v → l ≡ m → w ∷ l ≡ v ∷ m
+infixr 60 ◌and_then◌
+◌and_then◌ : {w v : ℕ} {l m : List ℕ} → w ≡ v → l ≡ m → w ∷ l ≡ v ∷ m
 e and_then f = ap₂ (λ (w : ℕ) (l : List ℕ). w ∷ l) e f
 
 joined : {l m k n : List ℕ} → l ≡ m → k ≡ n → l ++ k ≡ m ++ n

@@ -8,7 +8,7 @@ use mathlib.Core.List.{[], ◌∷◌}
 use lib.ListN.{length}
 use lib.Dec.{ltb}
 use borrow.Author.Tests.{ltb-true, lt-ltb}
-use Rattle.model.specs.Set.{units_taken, Set, task_at, at}
+use Rattle.model.specs.Set.{units_taken, Set, task_at}
 use Rattle.model.specs.Box.{Box, side}
 use Rattle.model.specs.Hold.{Hold}
 use Rattle.model.specs.Forbidden.{Forbidden}

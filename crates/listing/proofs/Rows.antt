@@ -7,8 +7,8 @@ use native.Mathlib.Numerals.{add-one}
 use native.Mathlib.Omega.{arith}
 use lib.ListN.{length, take, get_or}
 use lib.Seq.{length-take-le, take-suc}
-use Rattle.model.specs.Slice.{over, write}
-use Rattle.model.proofs.Slices.{write-none, write-next, write-front}
+use Rattle.model.specs.Slice.{write}
+use Rattle.model.proofs.Slices.{write-none, write-next}
 use Rattle.model.proofs.Rows.{Rows, length-rows}
 
 -- the rows of the first k words stand at the front of the slice, which is as long as it was
@@ -40,7 +40,3 @@ module _ {n : ℕ} {row : ℕ → List ℕ} {rows : List ℕ → List ℕ} (r : 
           e ∙ ap₂ (λ (l these : List ℕ). write l (k * n) these) f.1 t ∙ write-next d 0 front last (k * n) (omega arith) (omega (arith, r.each (get_or ws k 0)))
               ∙ ap (write d 0) (sym (rows-suc k h)),
         )
-
-    -- after the loop
-    pub all-filled : (l : List ℕ) (k count : ℕ) → Filled rows ws d l k → k ≡ count → l ≡ over (rows (take count ws)) d
-    all-filled l k count f q = f.1 ∙ ap (λ (j : ℕ). write d 0 (rows (take j ws))) q ∙ write-front d (rows (take count ws))

@@ -1,7 +1,8 @@
 -- The cleaner (SCOPE.md, "Cleaner"; refusals 1 to 12 and 28 by the former rules, 25): a set without the devices that no task claims, and its words in a lent slice.
 use Rattle.std.specs.Prelude.{ℕ, suc, Bool, cond, List, [], ◌∷◌, map, length, ltb}
 use Rattle.model.specs.Below.{how_many}
-use Rattle.model.specs.Answer.{Answer, given, refused, ◌then◌, Written, in_slice}
+use Rattle.model.specs.Slice.{over}
+use Rattle.model.specs.Answer.{Answer, given, refused, ◌then◌, if_given}
 use Rattle.model.specs.Set.{Action, claim, release, Task, Set, claimed}
 use Rattle.model.specs.Layout.{former, encode}
 use Rattle.model.specs.Read.{read_by}
@@ -32,6 +33,13 @@ cleaned s = record { capacities = kept_from (claimed s.tasks) 0 s.capacities; ta
 unfoldable pub clean_fits : List ℕ → Set → Answer (List ℕ)
 clean_fits slice s = let ws = encode (cleaned s) in cond (ltb (length slice) (length ws)) (refused 25 (length ws)) (given ws)
 
--- the words of the cleaned set in a lent slice
-abbrev pub clean : List ℕ → List ℕ → Written
-clean words slice = in_slice (read_by former words then clean_fits slice) slice
+-- the answer, with the number of words written if accepted, and the slice afterwards
+pub record Cleaned : Type 0 where
+  pub answer : Answer ℕ
+  pub slice : List ℕ
+
+-- a refused call leaves the slice as it was, and beyond the words written it keeps its own
+abbrev pub clean : List ℕ → List ℕ → Cleaned
+clean words slice =
+    let fitting = read_by former words then clean_fits slice in
+    record { answer = fitting then λ ws. given (length ws); slice = if_given fitting (λ ws. over ws slice) slice }

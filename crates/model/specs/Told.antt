@@ -8,9 +8,9 @@ use Rattle.model.specs.Broker.{Bid, granted, finished, share-spent, busy, held, 
 use Rattle.model.specs.Trial.{Tally, Tried, no_bids}
 use Rattle.model.specs.StoredPlan.{Location, in-forbidden, in-unsafe, in_neither}
 
--- the version of the library, 6.1.0: major times 10,000, minor times 100, patch
+-- the version of the library, 6.0.0: major times 10,000, minor times 100, patch
 abbrev pub VERSION : ℕ
-VERSION = 60100
+VERSION = 60000
 
 -- a kind, a refusal's number and a value; 0 where there is none
 pub record Told : Type 0 where

@@ -1,5 +1,5 @@
-// The walk over a plan's words: a struct that holds them and the index of the next one, and thin functions on it. The borrow checker covers no function over such a
-// struct, so each is proved by hand; the work is in `words`, over a plain slice and a number.
+// The walk over a plan's words: a struct that holds them and the index of the next one, and thin functions on it. The work is in `words`, over a plain slice and a
+// number.
 ghost use Rattle.std.specs.Prelude.{◌≡◌, ◌+◌, ◌≤◌, ◌<◌, ◌^◌, length};
 ghost use Rattle.plan_reader.specs.Walk.{before, taken, seen_from};
 

@@ -1,14 +1,13 @@
 -- `listing::decode` meets its contract: by cases, as the definition goes.
 -- Assumes nothing.
-use borrow.Author.Rules.{rules}
 use Rattle.model.specs.Answer.{if_given}
-use Rattle.model.proofs.FileWords.{count-words, too_many, not-whole, whole}
+use Rattle.model.proofs.FileWords.{count-words, too_many_lem, not-whole, whole}
 use Rattle.listing.specs.Words.{decoded_of}
 use Rattle.listing.proofs.decode.Goals as goal
 
 pub returns-then-bytes-gt-MAX_BYTES : goal.returns-then-bytes-gt-MAX_BYTES
 unfolding decoded_of if_given
-returns-then-bytes-gt-MAX_BYTES c = let e = too_many c.args.bytes.now c.if-bytes-gt-MAX_BYTES.true in record { value = rw e; words_after = rw e }
+returns-then-bytes-gt-MAX_BYTES c = let e = too_many_lem c.args.bytes.now c.if-bytes-gt-MAX_BYTES.true in record { value = rw e; words_after = rw e }
 
 pub returns-then-bytes-ne0 : goal.returns-then-bytes-ne0
 unfolding decoded_of if_given

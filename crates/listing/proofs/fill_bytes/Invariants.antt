@@ -1,12 +1,8 @@
 -- `listing::fill_bytes` meets its contract. The invariant: the bytes of the first k words are written at the front of the slice.
 -- Assumes nothing.
-use mathlib.Core.Path.{sym, ap}
 use Prim.Native.Nat.{◌-◌, ◌≤◌}
-use native.Mathlib.Omega.{arith}
-use lib.ListN.{length}
 use Rattle.model.specs.CleanFile.{bytes_of_all}
-use Rattle.model.proofs.Rows.{fours}
-use Rattle.listing.proofs.Rows.{Filled, none_filled, one-filled, all-filled}
+use Rattle.listing.proofs.Rows.{Filled}
 use Rattle.listing.proofs.fill_bytes.Given as goal
 
 abbrev pub invariant-loop-k : goal.invariant-loop-k

@@ -1,10 +1,10 @@
 -- `listing::fill_words` meets its contract. The invariant: the first k words of the bytes stand at the front of the slice, which is as it was behind them.
 -- Assumes nothing.
-use mathlib.Core.Path.{◌≡◌, refl, sym, ap₂, ◌∙◌}
-use mathlib.Core.List.{List, ◌++◌}
-use Prim.Native.Nat.{ℕ, ◌-◌, ◌/◌, ◌≤◌, min}
+use mathlib.Core.Path.{◌≡◌, sym, ap₂, ◌∙◌}
+use mathlib.Core.List.{List}
+use Prim.Native.Nat.{ℕ, ◌/◌, min}
 use native.Mathlib.Omega.{arith}
-use lib.ListN.{length, take, drop, get_or, set, length-set}
+use lib.ListN.{length, get_or, set, length-set}
 use Rattle.model.proofs.Lists.{length-tabulate, get_d_tabulate}
 use Rattle.model.specs.Printed.{word_at, words_in}
 use Rattle.listing.proofs.Front.{front-suc, front-all}

@@ -1,6 +1,5 @@
 -- `plan_words::is_side` meets its contract: a side is the word that its task and its own bounds make.
 use mathlib.Core.Path.{◌≡◌, sym, ◌∙◌}
-use borrow.Author.Rules.{rules}
 use borrow.Author.Tests.{eq-eqb, ne_eqb}
 use Rattle.model.specs.Plan.{side_word, side_of}
 use Rattle.model.specs.StoredPlan.{is_side}

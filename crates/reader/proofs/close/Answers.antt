@@ -1,5 +1,4 @@
 -- `reader::close` meets its contract: the grid decides between refusal 12 and the shape of the set.
-use borrow.Author.Rules.{rules}
 use borrow.Author.Tests.{lt-ltb, le-ltb}
 use Prim.Native.Nat.{ℕ, ◌≤◌}
 use mathlib.Core.Path.{◌≡◌, sym, ap, ◌∙◌}

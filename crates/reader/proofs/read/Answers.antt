@@ -1,5 +1,4 @@
 -- `reader::read` meets its contract: what all words come to, the lowest device that no task claims, and the close of a whole set.
-use borrow.Author.Rules.{rules}
 use mathlib.Core.Path.{sym, ap, ◌∙◌}
 use Prim.Native.Nat.{ℕ}
 use Rattle.model.specs.Answer.{refused}

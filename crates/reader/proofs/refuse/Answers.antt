@@ -1,5 +1,4 @@
 -- `reader::refuse` meets its contract: a refusal has the shape of the empty set, and no device of it is claimed.
-use borrow.Author.Rules.{rules}
 use Rattle.model.specs.Below.{tabulate}
 use Rattle.model.specs.Set.{claimed}
 use Rattle.model.specs.Read.{set_of}

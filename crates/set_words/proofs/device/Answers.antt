@@ -1,5 +1,4 @@
 -- `set_words::device` meets its contract: by the action's kind.
-use borrow.Author.Rules.{rules}
 use mathlib.Core.Path.{sym, ap, ◌∙◌}
 use Rattle.model.specs.Layout.{device_bits}
 use Rattle.set_words.proofs.Actions.{device-field}

@@ -1,5 +1,4 @@
 -- `set_words::device_in_set` meets its contract: below 16 the low bits are the whole device.
-use borrow.Author.Rules.{rules}
 use mathlib.Core.Path.{◌∙◌}
 use Rattle.set_words.proofs.Actions.{device-low}
 use Rattle.set_words.proofs.device_in_set.Goals as goal

@@ -1,5 +1,4 @@
 -- `set_words::is_claim` meets its contract: an action is a claim by its kind.
-use borrow.Author.Rules.{rules}
 use Prim.Native.Nat.{ℕ}
 use mathlib.Core.Path.{sym, ap, ◌∙◌}
 use lib.Dec.{eqb}

@@ -1,5 +1,4 @@
 -- `set_words::with_device` meets its contract: by the action's kind.
-use borrow.Author.Rules.{rules}
 use native.Mathlib.Omega.{arith}
 use mathlib.Core.Path.{sym, ◌∙◌}
 use Rattle.set_words.proofs.Actions.{number-field}

@@ -1,8 +1,7 @@
 -- `task_sets::follow` meets its contract. The invariant: what follows is what followed at first, and the last sum fits a byte.
-use Prim.Native.Nat.{ℕ, ◌+◌, ◌-◌, ◌^◌, ◌≤◌}
+use Prim.Native.Nat.{◌-◌, ◌^◌}
 use native.Mathlib.Omega.{arith}
-use mathlib.Core.Path.{◌≡◌}
-use Rattle.task_sets.proofs.Walks.{Down, down-past, down-there}
+use Rattle.task_sets.proofs.Walks.{down-past, down-there}
 use Rattle.task_sets.proofs.follow.Goals as goal
 
 pub loop-task-preserved : goal.loop-task-preserved

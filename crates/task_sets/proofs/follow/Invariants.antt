@@ -1,8 +1,7 @@
 -- `task_sets::follow` meets its contract. The invariant: what follows is what followed at first, and the last sum fits a byte.
 use Prim.Native.Nat.{ℕ, ◌+◌, ◌-◌, ◌^◌, ◌≤◌}
-use native.Mathlib.Omega.{arith}
 use mathlib.Core.Path.{◌≡◌}
-use Rattle.task_sets.proofs.Walks.{Down, down-past, down-there}
+use Rattle.task_sets.proofs.Walks.{Down}
 use Rattle.task_sets.proofs.follow.Given as goal
 
 abbrev pub invariant-loop-task : goal.invariant-loop-task

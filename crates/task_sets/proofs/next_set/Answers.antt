@@ -2,7 +2,7 @@
 use native.Mathlib.Omega.{arith}
 use mathlib.Core.Path.{refl, ◌∙◌}
 use Rattle.task_sets.specs.Next.{after}
-use Rattle.task_sets.proofs.Walks.{Behind, behind_more, gap-found}
+use Rattle.task_sets.proofs.Walks.{behind_more, gap-found}
 use Rattle.task_sets.proofs.next_set.Goals as goal
 
 pub returns-then-mask-eq-ALL_TASKS : goal.returns-then-mask-eq-ALL_TASKS

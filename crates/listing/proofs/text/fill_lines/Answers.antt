@@ -1,13 +1,8 @@
 -- `listing::text::fill_lines` meets its contract. The invariant: the lines of the first k words are written at the front of the slice.
 -- Assumes nothing.
-use mathlib.Core.Path.{sym, ap}
-use Prim.Native.Nat.{◌-◌, ◌≤◌}
 use native.Mathlib.Omega.{arith}
-use lib.ListN.{length}
-use borrow.Author.Rules.{rules}
-use Rattle.model.specs.Printed.{lines_of}
 use Rattle.model.proofs.Rows.{lines}
-use Rattle.listing.proofs.Rows.{Filled, none_filled, one-filled, all-filled}
+use Rattle.listing.proofs.Rows.{none_filled, one-filled}
 use Rattle.listing.proofs.text.fill_lines.Goals as goal
 
 pub loop-k-init : goal.loop-k-init
@@ -19,4 +14,4 @@ loop-k-preserved c =
     let a = c.args in
     let o = c.loop-k in
     let p = c.put in
-    (omega arith, one-filled lines a.words.now a.out.now _ _ _ o.k (omega arith) (omega arith) o.invariant.1 line.ensures p.auto.1.0 p.ensures.out_after)
+    (omega arith, one-filled lines a.words.now a.out.now _ _ _ o.k (omega arith) (omega arith) o.invariant.1 line.ensures p.auto.out p.ensures.out_after)

@@ -1,12 +1,12 @@
 -- `listing::text::put` meets its contract. The invariant: the first j bytes stand in the slice from index `to` on.
 -- Assumes nothing.
-use mathlib.Core.Path.{◌≡◌, refl, sym, ap, ◌∙◌}
-use mathlib.Core.List.{List, ◌++◌}
-use Prim.Native.Nat.{ℕ, ◌+◌, ◌-◌, ◌≤◌}
+use mathlib.Core.Path.{sym, ap, ◌∙◌}
+use mathlib.Core.List.{List}
+use Prim.Native.Nat.{ℕ, ◌+◌}
 use native.Mathlib.Numerals.{add-one}
 use native.Mathlib.Omega.{arith}
-use lib.ListN.{length, get_or, take, drop, set, length-set}
-use lib.Seq.{paste, paste-zero, paste-suc, take-length}
+use lib.ListN.{get_or, set, length-set}
+use lib.Seq.{paste, paste-suc}
 use Rattle.listing.proofs.text.put.Goals as goal
 
 pub loop-j-preserved : goal.loop-j-preserved

@@ -3,7 +3,6 @@
 use Prim.Native.Nat.{◌≤◌}
 use native.Mathlib.Omega.{arith}
 use lib.ListN.{length}
-use borrow.Author.Rules.{rules}
 use Rattle.model.specs.Printed.{decimal}
 use Rattle.model.proofs.Decimal.{decimal-length}
 use Rattle.listing.proofs.Runs.{put-more}
@@ -19,8 +18,9 @@ put_decimal-requires c = omega (arith, few (goal.at.put_decimal-requires c).Star
 
 pub returns : goal.returns
 returns c =
-    let d = c.put_decimal in
+    let p = c.put-named.ensures in
+    let d = c.put_decimal.ensures in
     let a = c.args in
     let fits = few (goal.at.returns c).Start in
-    let both = put-more a.out.now a.to a.name.now (decimal a.n) c.put-named.ensures (omega arith) d.ensures in
-    record { value = both.0; upper_bound = omega (arith, d.ensures.0, c.put-named.ensures.value); out_after = both.1 }
+    let both = put-more a.out.now a.to a.name.now (decimal a.n) (p.value, p.out_after) (omega arith) (d.value, d.out_after) in
+    record { value = both.0; upper_bound = omega (arith, d.value, p.value); out_after = both.1 }

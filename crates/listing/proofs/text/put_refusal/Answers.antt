@@ -5,7 +5,6 @@ use native.Mathlib.Omega.{arith}
 use mathlib.Core.Path.{◌≡◌, sym, ap, ◌∙◌}
 use mathlib.Core.List.{List, [], ◌∷◌, ◌++◌, append_assoc}
 use lib.ListN.{length}
-use borrow.Author.Rules.{rules}
 use Rattle.model.specs.Slice.{write}
 use Rattle.model.specs.Printed.{codes, decimal, refusal_line}
 use Rattle.model.proofs.Slices.{write-front}
@@ -26,7 +25,11 @@ returns c =
     let o = a.out.now in
     let n = codes "refused " ++ decimal a.number in
     let p = codes " at " ++ decimal a.place in
-    let both = put-more o 0 n p (x.0, x.1.1) (omega (arith, x.0, x.1.0, y.0, y.1.0)) (y.0, y.1.1) in
-    let all = put-more o 0 (n ++ p) (10 ∷ []) both (omega (arith, both.0, x.1.0, y.1.0)) z in
+    let both = put-more o 0 n p (x.value, x.out_after) (omega (arith, x.value, x.upper_bound, y.value, y.upper_bound)) (y.value, y.out_after) in
+    let all = put-more o 0 (n ++ p) (10 ∷ []) both (omega (arith, both.0, x.upper_bound, y.upper_bound)) (z.value, z.out_after) in
     let l = line a.number a.place in
-    record { value = omega (arith, all.0, ap length l); upper_bound = omega (arith, z.0, x.1.0, y.1.0); out_after = all.1 ∙ ap (write o 0) l ∙ write-front o (refusal_line a.number a.place) }
+    record {
+      value = omega (arith, all.0, ap length l);
+      upper_bound = omega (arith, z.value, x.upper_bound, y.upper_bound);
+      out_after = all.1 ∙ ap (write o 0) l ∙ write-front o (refusal_line a.number a.place);
+    }

@@ -1,7 +1,4 @@
 -- `reader::faults::action_fault` meets its contract: the rules on the way to each return pick the number.
-use borrow.Author.Rules.{rules}
-use borrow.Author.Tests.{ltb-true, not-true, not-false}
-use native.Mathlib.Omega.{arith}
 use mathlib.Core.Path.{◌≡◌, sym, ◌∙◌}
 use mathlib.Core.Bool.{true, false}
 use lib.Dec.{eqb, ltb, leb}

@@ -1,6 +1,4 @@
 -- `reader::faults::held_fault` meets its contract: the rule and the kind pick the number.
-use borrow.Author.Rules.{rules}
-use borrow.Author.Tests.{not-true, not-false}
 use mathlib.Core.Path.{◌≡◌, sym, ◌∙◌}
 use mathlib.Core.Bool.{true, beq}
 use Rattle.reader.specs.Faults.{held_fault}

@@ -1,6 +1,4 @@
 -- `reader::faults::task_fault` meets its contract: the rules on the way to each return pick the number.
-use borrow.Author.Rules.{rules}
-use borrow.Author.Tests.{not-true, not-false}
 use mathlib.Core.Path.{◌≡◌, sym, ◌∙◌}
 use mathlib.Core.Bool.{true, false}
 use lib.Dec.{eqb, leb}

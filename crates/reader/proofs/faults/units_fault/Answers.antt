@@ -1,6 +1,5 @@
 -- `reader::faults::units_fault` meets its contract: the rules on the way to each return pick the number.
-use borrow.Author.Rules.{rules}
-use borrow.Author.Tests.{ltb-true, not-true, not-false}
+use borrow.Author.Tests.{ltb-true}
 use native.Mathlib.Omega.{arith}
 use Prim.Native.Nat.{suc, ◌<◌}
 use mathlib.Core.Path.{◌≡◌, sym, ◌∙◌}

@@ -1,9 +1,7 @@
 -- `reader::faults::word_fault` meets its contract: the kind picks the function that finds the number.
-use borrow.Author.Rules.{rules}
 use borrow.Author.Tests.{ne_eqb}
 use Prim.Native.Nat.{ℕ}
 use mathlib.Core.Path.{◌≡◌, sym, ◌∙◌}
-use native.Mathlib.Omega.{arith}
 use Rattle.model.specs.Layout.{kind_of}
 use Rattle.reader.specs.Faults.{word_fault}
 use Rattle.reader.proofs.faults.word_fault.Goals.{After-field-field}

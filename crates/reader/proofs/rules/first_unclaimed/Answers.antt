@@ -1,14 +1,7 @@
 -- `reader::rules::first_unclaimed` meets its contract. The invariant: each device before d is claimed.
-use Prim.Native.Nat.{ℕ, ◌-◌, ◌≤◌, ◌<◌}
 use mathlib.Core.Path.{◌≡◌, sym, ap, ◌∙◌}
-use mathlib.Core.Bool.{Bool, false, not}
-use mathlib.Core.List.{List}
-use native.Mathlib.Nat.{eq-or-lt_of_le, le_of_suc-le-suc}
-use native.Mathlib.Numerals.{add-one}
+use mathlib.Core.Bool.{not}
 use native.Mathlib.Omega.{arith}
-use lib.ListN.{get_or}
-use borrow.Author.Tests.{not-false}
-use Rattle.model.proofs.Bools.{by_cases}
 use Rattle.model.proofs.Counts.{is-lowest, none-lowest}
 use Rattle.reader.proofs.rules.first_unclaimed.Invariants.{unclaimed}
 use Rattle.reader.proofs.rules.first_unclaimed.Goals as goal

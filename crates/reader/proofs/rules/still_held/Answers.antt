@@ -1,12 +1,7 @@
 -- `reader::rules::still_held` meets its contract. The invariant: none of the devices before i is held.
 use borrow.Author.Rules.{rules}
-use Prim.Native.Nat.{ℕ, ◌-◌, ◌≤◌}
-use mathlib.Core.Path.{◌≡◌, refl, sym}
-use mathlib.Core.Bool.{Bool, false}
-use mathlib.Core.List.{List}
-use native.Mathlib.Nat.{le_antisymm}
+use mathlib.Core.Path.{refl, sym}
 use native.Mathlib.Omega.{arith}
-use lib.ListN.{get_or}
 use Rattle.model.specs.Below.{any}
 use Rattle.model.proofs.Bools.{any-more, any-intro}
 use Rattle.reader.proofs.rules.still_held.Invariants.{holds}

@@ -1,13 +1,10 @@
 -- `reader::rules::still_held` meets its contract. The invariant: none of the devices before i is held.
 use Prim.Native.Nat.{ℕ, ◌-◌, ◌≤◌}
-use mathlib.Core.Path.{◌≡◌, refl, sym}
+use mathlib.Core.Path.{◌≡◌}
 use mathlib.Core.Bool.{Bool, false}
 use mathlib.Core.List.{List}
-use native.Mathlib.Nat.{le_antisymm}
-use native.Mathlib.Omega.{arith}
 use lib.ListN.{get_or}
 use Rattle.model.specs.Below.{any}
-use Rattle.model.proofs.Bools.{any-more, any-intro}
 use Rattle.reader.proofs.rules.still_held.Given as goal
 
 abbrev pub holds : List Bool → ℕ → Bool

@@ -1,5 +1,4 @@
 -- `reader::run::read_tasks` meets its contract. The invariant: the words up to i led to the scan of the tasks noted so far, and no action goes on there.
-use borrow.Author.Rules.{rules}
 use Prim.Native.Nat.{ℕ, ◌+◌, ◌-◌, ◌<◌}
 use mathlib.Core.Path.{◌≡◌, refl, sym, ◌∙◌}
 use mathlib.Core.List.{List}
@@ -9,7 +8,7 @@ use lib.Seq.{get_or-set_same}
 use Rattle.model.specs.Set.{at}
 use Rattle.model.specs.Layout.{field_of}
 use Rattle.reader.specs.Faults.{task_fault, action_fault}
-use Rattle.reader.specs.Follow.{Reached, scanned, Opened, NoAction}
+use Rattle.reader.specs.Follow.{scanned, Opened}
 use Rattle.reader.proofs.FaultLaws.{task-kept}
 use Rattle.reader.proofs.Going.{with_task, opens, in_array}
 use Rattle.reader.proofs.run.read_tasks.Goals.{Else-task_fault-gt-NO_FAULT}

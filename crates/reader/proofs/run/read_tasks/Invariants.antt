@@ -1,16 +1,9 @@
 -- `reader::run::read_tasks` meets its contract. The invariant: the words up to i led to the scan of the tasks noted so far, and no action goes on there.
-use Prim.Native.Nat.{ℕ, ◌+◌, ◌-◌, ◌<◌}
-use mathlib.Core.Path.{◌≡◌, refl, sym, ◌∙◌}
-use mathlib.Core.List.{List}
-use native.Mathlib.Omega.{arith}
-use lib.ListN.{length, set}
-use lib.Seq.{get_or-set_same}
+use Prim.Native.Nat.{◌-◌}
+use mathlib.Core.Path.{◌≡◌}
+use lib.ListN.{length}
 use Rattle.model.specs.Set.{at}
-use Rattle.model.specs.Layout.{field_of}
-use Rattle.reader.specs.Faults.{task_fault, action_fault}
-use Rattle.reader.specs.Follow.{Reached, scanned, Opened, NoAction}
-use Rattle.reader.proofs.FaultLaws.{task-kept}
-use Rattle.reader.proofs.Going.{with_task, opens, in_array}
+use Rattle.reader.specs.Follow.{Reached, scanned, NoAction}
 use Rattle.reader.proofs.run.read_tasks.Given as goal
 
 abbrev pub invariant-loop-i : goal.invariant-loop-i

@@ -11,7 +11,6 @@ use Rattle.model.specs.Read.{nothing_read, read_from, read_words}
 use Rattle.reader.specs.declared.words.Words.{Words}
 use Rattle.reader.specs.Follow.{ReadsAll}
 use Rattle.reader.proofs.Steps.{start-limits}
-use Rattle.reader.proofs.Going.{few-devices, few-tasks}
 use Rattle.reader.proofs.Ending.{no_end, fault-here, after_end, whole}
 use Rattle.reader.proofs.words.read_words.Goals.{After-word_fault-fault, Else-fault-gt-NO_FAULT}
 use Rattle.reader.proofs.words.read_words.Goals as goal
