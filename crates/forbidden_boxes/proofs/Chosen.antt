@@ -1,6 +1,6 @@
 -- The choices over a task's sides, one turn at a time.
 use Prim.Native.Nat.{ℕ, zero, suc, min, ◌+◌, ◌-◌, ◌*◌, ◌/◌, ◌%◌, ◌^◌, ◌≤◌, ◌<◌}
-use native.Mathlib.Nat.{eq-or-lt_of_le, pow-suc}
+use native.Mathlib.Nat.{pow-suc}
 use native.Mathlib.Numerals.{add-one}
 use native.Mathlib.Omega.{arith}
 use mathlib.Core.Path.{◌≡◌, refl, ap, ◌∙◌}
@@ -8,22 +8,14 @@ use mathlib.Core.Bool.{cond}
 use mathlib.Core.List.{List, [], ◌∷◌, ◌++◌, append-nil}
 use lib.Arith.{lt-one}
 use lib.ListN.{length, take, set, length-set}
-use lib.Seq.{take-suc, take-suc-set, get_or-set_same, get_or-set_other}
-use lib.Count.{ones, ones_in}
+use lib.Seq.{take-suc, take-suc-set, get_or-set_other}
 use lib.Dec.{eqb}
-use borrow.Author.Tests.{eqb-true, eqb-false}
 use Rattle.model.specs.Set.{at}
-use Rattle.model.proofs.Bools.{by_bool, by_cases}
+use Rattle.model.proofs.Bools.{by_bool}
 use Rattle.plan_words.specs.Words.{up_to}
 use Rattle.plan_words.proofs.UpTo.{same-words}
 use Rattle.forbidden_boxes.specs.Rows.{ROW, WHOLE, ROWS, Sized, Whole}
 use Rattle.forbidden_boxes.specs.Choices.{just_over, side_count, first_side, sum_with, least_with, hold_words, choice_words}
-
--- a mask whose tasks can exceed a capacity is not 0
-pub not-empty : (m s most : ℕ) → s < ones m * most → 0 < m
-unfolding ones ones_in
-not-empty zero s most h = absurd (omega arith)
-not-empty (suc m) s most h = omega arith
 
 -- a mask that is not 0 has a task left
 pub some_left : (m n : ℕ) → m < 2 ^ n → 0 < m → 0 < n
@@ -57,21 +49,8 @@ pub chosen : (next before : List ℕ) (t w : ℕ) → t < length next → take t
 chosen next before t w h e = ap (λ (k : ℕ). take k (set next t w)) (add-one t) ∙ take-suc-set next t w h ∙ ap (λ (l : List ℕ). l ++ (w ∷ [])) e
 
 -- the tasks after t keep their words
-pub whole-after : (rows sides : List ℕ) (t n : ℕ) → Whole rows sides t n → Whole rows sides (t + 1) (n - 1)
-whole-after rows sides t n w u h l = w u (omega arith) (omega arith)
-
 pub whole_set : (rows sides : List ℕ) (t n v : ℕ) → Whole rows sides (t + 1) n → Whole rows (set sides t v) (t + 1) n
 whole_set rows sides t n v w u h l = get_or-set_other sides t u v 0 (λ e. absurd (omega arith)) ∙ w u h l
-
--- one task's word more
-pub whole-one : (rows sides : List ℕ) (t : ℕ) → t < length sides → Whole rows sides 0 t → Whole rows (set sides t (at rows (t * ROW + WHOLE))) 0 (t + 1)
-whole-one rows sides t h w u g l =
-    by_bool (eqb u t)
-    (λ q. let e = eqb-true u t q in rw e (get_or-set_same sides t (at rows (t * ROW + WHOLE)) 0 h))
-    (λ q. let e = eqb-false u t q in get_or-set_other sides t u (at rows (t * ROW + WHOLE)) 0 e ∙ w u g (below e))
-  where
-    below : (u ≡ t → ⊥) → u < 0 + t
-    below e = by_cases (eq-or-lt_of_le (let k : u ≤ t = omega arith in k)) (λ z. absurd (e z)) (λ k. omega arith)
 
 module _ (rows units holds : List ℕ) (hd s : ℕ) where
   -- where no task of the set is left, each is whole

@@ -56,7 +56,9 @@ module _ (d : ℕ) where
       within : (hs : List Hold) → Each (λ h. h.units ≤ m) hs → Each (λ h. h.units ≤ cond (eqb (length hs) 0) 0 1 * m) hs
       within [] e = tt
       within (h ∷ hs) e =
-          rw (ne_eqb (length (h ∷ hs)) 0 (λ z. absurd (omega arith))) (each-mono (λ h. h.units ≤ m) (λ h. h.units ≤ 1 * m) (λ h l. omega arith) (h ∷ hs) e)
+          let k : ℕ = cond (eqb (length (h ∷ hs)) 0) 0 1 in
+          let one-task : k ≡ 1 = rw (ne_eqb (length (h ∷ hs)) 0 (λ z. absurd (omega arith))) in
+          each-mono (λ h. h.units ≤ m) (λ g. g.units ≤ cond (eqb (length (h ∷ hs)) 0) 0 1 * m) (λ g l. rw one-task (omega arith)) (h ∷ hs) e
   sides-most m false task a = (omega arith, tt)
 
   choices-most : (m : ℕ) (cs : TaskSet) (tasks : List Task) → Each (AtMost d m) tasks → Each (λ c. total c ≤ claimers_of tasks * m) (choices_of d cs tasks)

@@ -18,7 +18,7 @@ use Rattle.model.proofs.Each.{Each, each-place}
 use Rattle.model.proofs.SetSizes.{AtMost}
 use Rattle.shape.specs.declared.Shape.{Shape}
 use Rattle.shape.specs.Declares.{Declares}
-use Rattle.shape.proofs.Declared.{tasks-are, length-is}
+use Rattle.shape.proofs.Declared.{length-is}
 use Rattle.forbidden_boxes.specs.Units.{TaskNoted, MostUnits, NoMore}
 
 -- a release takes none
@@ -35,9 +35,6 @@ raised l i v h k j =
     (λ e. rw (get_or-set_other l i j v 0 (eqb-false j i e)) (omega arith))
 
 module _ (words : List ℕ) (start : ℕ) (before : List ℕ) where
-  pub none-noted : TaskNoted words start 0 before before
-  none-noted = record { kept = λ d. omega arith; within = λ p h. absurd (omega arith) }
-
   -- the next action
   pub one-noted : {most : List ℕ} {p d v : ℕ} → TaskNoted words start p before most → d ≡ device_of (action_of (at words (start + p))) → d < length most
       → v ≡ max (at most d) (units_taken (action_of (at words (start + p)))) → TaskNoted words start (p + 1) before (set most d v)
@@ -70,10 +67,6 @@ module _ {words : List ℕ} {shape : Shape} {s : Set} (says : Declares words sha
       by_cases (eq-or-lt_of_le (le_of_suc-le-suc (rw (add-one t) at h)))
       (λ z. let k = rw z at l in rw (z, ← says.action t p k) (n.within p (rw (length-is says t) k)))
       (λ k. omega (arith, m u p k l, n.kept (device_of (action_at s u p))))
-
-  -- no claim of device d takes more than its entry
-  pub most-all : (most : List ℕ) → MostUnits s shape.tasks most → (d : ℕ) → NoMore s d (at most d)
-  most-all most m d t p h l e = rw e at (m t p (omega (arith, tasks-are says)) l)
 
 -- the holds of a task take what its claims do
 holds-within : (d m q : ℕ) (task : Task) → ((p : ℕ) → p < length task → device_of (get_or task p (claim 0 0)) ≡ d → units_taken (get_or task p (claim 0 0)) ≤ m)
