@@ -6,7 +6,6 @@ use Rattle.model.specs.Layout.{encode, former, WellFormedBy}
 use Rattle.model.specs.Read.{read_by, read}
 use Rattle.model.specs.State.{State}
 use Rattle.model.specs.Hold.{permitted}
-use Rattle.model.specs.Forbidden.{forbidden}
 use Rattle.model.specs.Map.{map_of}
 use Rattle.model.specs.Plan.{plan_of}
 use Rattle.model.specs.Clean.{new_number, cleaned, Cleaned, clean}

@@ -7,7 +7,7 @@ use mathlib.Core.List.{[], ◌∷◌}
 use lib.ListN.{length}
 use lib.Dec.{eqb}
 use borrow.Author.Tests.{lt-leb, le-leb}
-use Rattle.model.specs.Set.{claim, release, Task, at, balanced}
+use Rattle.model.specs.Set.{claim, release, Task, balanced}
 use Rattle.model.specs.Hold.{held_to, holds_from, units_at}
 use Rattle.model.proofs.Bools.{by_bool, true-not-false, and-true}
 

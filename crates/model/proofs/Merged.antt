@@ -4,13 +4,13 @@ use native.Mathlib.Omega.{arith}
 use native.Mathlib.Nat.{mul-le-mul}
 use mathlib.Core.Path.{◌≡◌, refl, sym, ap, ◌∙◌}
 use mathlib.Core.Logic.{inl, inr}
-use mathlib.Core.Bool.{true, false, ◌&&◌, ◌||◌}
-use mathlib.Core.List.{List, [], ◌∷◌, ◌++◌, map, map-append}
-use lib.ListN.{length, take, drop, length-append, length-drop, length-map, get_or-append, get_or-map}
+use mathlib.Core.Bool.{true, false, ◌&&◌}
+use mathlib.Core.List.{List, [], ◌∷◌, ◌++◌, map}
+use lib.ListN.{length, take, drop, length-append, length-drop, length-map, get_or-append}
 use lib.Seq.{get_or-append-add, get_or-drop}
 use lib.Dec.{eqb, ltb, leb}
 use borrow.Author.Tests.{lt-ltb, le-ltb, ltb-true, ltb-false, le-leb, leb-true, leb-false, eqb-true, eqb-false, eq-eqb, ne_eqb}
-use Rattle.model.specs.Set.{claim, device_of, Task, Set, lengths, lengths_of, task_at, claims, claimed, at, size, GoodTask}
+use Rattle.model.specs.Set.{claim, device_of, Task, Set, lengths, lengths_of, claims, claimed, at, size, GoodTask}
 use Rattle.model.specs.Layout.{task_words, body, with_end, encode, WellFormed}
 use Rattle.model.specs.Answer.{refused}
 use Rattle.model.specs.Read.{read}
@@ -21,7 +21,7 @@ use Rattle.model.proofs.Ranks.{size-pos}
 use Rattle.model.proofs.Each.{Each, each_append, each-mono, each_map, each-place, each_at}
 use Rattle.model.proofs.Held.{EachPlace}
 use Rattle.model.proofs.Words.{words_append}
-use Rattle.model.proofs.Renamed.{lengths-renamed, Follows, claimed-renamed}
+use Rattle.model.proofs.Renamed.{Follows, claimed-renamed}
 use Rattle.model.proofs.RenamedTask.{Carries, task-good}
 use Rattle.model.proofs.Cleaned.{all-declared, length-words}
 use Rattle.model.proofs.ReadAccepts.{InWords}

@@ -1,7 +1,7 @@
 -- A good task stays one when its devices get other numbers: for the cleaner, and for every call that makes a set out of sets.
 use Prim.Native.Nat.{ℕ, ◌<◌, ◌≤◌}
 use native.Mathlib.Omega.{arith}
-use mathlib.Core.Path.{◌≡◌, refl, ap, ◌∙◌}
+use mathlib.Core.Path.{◌≡◌, ◌∙◌}
 use mathlib.Core.Logic.{◌⊎◌}
 use mathlib.Core.Bool.{false}
 use mathlib.Core.List.{List, map}
