@@ -1,4 +1,4 @@
-"""The library's archive, byte for byte: python3 tests/test_archive.py [--write], after rt staticlib arbiter.
+"""The library's archive, byte for byte: python3 tests/test_archive.py [--write], after tools/build arbiter.
 
 One kit makes one archive of a commit, whatever the folder and the time: no path, time or owner stands in it. include/libarbiter.sha256 has
 its hash, in the form that `sha256sum -c` takes from the repository's top, and in a comment the kit that made it, as `rt version` prints it.
@@ -24,7 +24,7 @@ def kit():
 def hash_of_archive():
     archive = ROOT / ARCHIVE
     if not archive.is_file():
-        sys.exit(f"there is no {ARCHIVE}: run rt staticlib arbiter")
+        sys.exit(f"there is no {ARCHIVE}: run tools/build arbiter")
     return hashlib.sha256(archive.read_bytes()).hexdigest()
 
 

@@ -582,7 +582,7 @@ class Cleanings(Case):
         """Where the program isn't built, how to build it."""
         missing = os.path.join(self.folder, "clean")
         with mock.patch.object(programs, "built", return_value=missing):
-            self.assert_complaint(self.here(clean, EXAMPLE_A), "No such file or directory ('rt check clean' builds it)")
+            self.assert_complaint(self.here(clean, EXAMPLE_A), "No such file or directory ('tools/build clean' builds it)")
             self.assertNotIn("builds it", self.here(clean, "--cleaner", missing + "er", EXAMPLE_A).said)
 
 
@@ -658,7 +658,7 @@ class Trials(Case):
             self.assert_complaint(self.tried(self.TABLE, EXAMPLE_A, "0,1", "5", "1/4", ending=ending), "the program ended with status %d" % status)
         missing = os.path.join(self.folder, "run_trial")
         with mock.patch.object(programs, "built", return_value=missing):
-            self.assert_complaint(self.here(trial, EXAMPLE_A, "0", "1", "1/1"), "No such file or directory ('rt check run_trial' builds it)")
+            self.assert_complaint(self.here(trial, EXAMPLE_A, "0", "1", "1/1"), "No such file or directory ('tools/build run_trial' builds it)")
 
     def test_arguments_that_cannot_be_taken(self):
         """The program isn't run."""

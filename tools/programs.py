@@ -40,7 +40,7 @@ def run(program, data, words=()):
         ended = subprocess.run([os.path.abspath(program), *words], input=data, stdout=subprocess.PIPE)
     except OSError as error:
         name = os.path.basename(program)
-        hint = " ('rt check %s' builds it)" % name if program == built(name) else ""
+        hint = " ('tools/build %s' builds it)" % name if program == built(name) else ""
         raise Complaint("%s: %s%s" % (shown(program), error.strerror, hint))
     return ended.stdout, ended.returncode
 

@@ -1,4 +1,4 @@
-//! Links the proved library: libarbiter.a in the folder that ARBITER_LIB_DIR names (an absolute path), or where `rt staticlib arbiter` writes it.
+//! Links the proved library: libarbiter.a in the folder that ARBITER_LIB_DIR names (an absolute path), or where `tools/build arbiter` writes it.
 
 use std::env;
 use std::path::PathBuf;
@@ -18,7 +18,7 @@ fn main() {
     println!("cargo:rerun-if-changed={}", library.display());
     if !library.is_file() {
         stop(&format!(
-            "there is no {}\nProve and build it with 'rt staticlib arbiter' in the repository, or set ARBITER_LIB_DIR to the folder that has it (an absolute path).",
+            "there is no {}\nProve and build it with 'tools/build arbiter' in the repository, or set ARBITER_LIB_DIR to the folder that has it (an absolute path).",
             library.display()
         ));
     }

@@ -1,5 +1,5 @@
-// The arbiter's calls for hosts in C, C++ and Rust (include/arbiter.h has them for C). Each hands its library call on, and no host owes it anything but the slices
-// and the record themselves.
+// The arbiter's calls for hosts in C, C++ and Rust (include/arbiter.h has them for C; `arbiter_c` exports them). Each hands its library call on, and no host owes
+// it anything but the slices and the record themselves.
 #![tactic(auto)]
 
 mod answers;
@@ -18,7 +18,7 @@ ghost use Rattle.model.specs.Told.{VERSION, tell_reading, tell_bid, tell_again, 
 ghost use Rattle.records.specs.Says.{record_of};
 ghost use Rattle.arbiter.specs.Told.{struct_of, trial_struct, ToldAnalysis, ToldServed, ToldRoute, ToldCleaned, ToldMerged};
 
-use answers::{Analysis, Answer, Trial};
+pub use answers::{Analysis, Answer, Trial};
 use broker::Settings;
 use records::Record;
 
@@ -30,40 +30,35 @@ pub struct State {
 }
 
 // The library's own version, for a host to compare with that of the header or package it was built with: structs and numbers may differ between versions.
-#[unsafe(no_mangle)]
-pub extern "C" fn arbiter_version() -> u32
+pub fn arbiter_version() -> u32
     ensures { result ≡ VERSION }
 {
     model::VERSION
 }
 
 // Reads a set: accepted with its grid, so that a host knows how long its map will be, or a refusal of the set.
-#[unsafe(no_mangle)]
-pub extern "C" fn arbiter_read(set: &[u32]) -> Answer
+pub fn arbiter_read(set: &[u32]) -> Answer
     ensures { result ≡ struct_of (tell_reading (read set.now)) }
 {
     answers::of_reading(reader::read(set, reader::PRESENT))
 }
 
 // The analysis of a set into a map and a plan.
-#[unsafe(no_mangle)]
-pub extern "C" fn arbiter_analyse(set: &[u32], map: &mut [u8], plan: &mut [u32]) -> Analysis
+pub fn arbiter_analyse(set: &[u32], map: &mut [u8], plan: &mut [u32]) -> Analysis
     ensures { ToldAnalysis result map.new plan.new (analyse set.now map.old plan.old) }
 {
     answers::of_outcome(analysis::analyse(set, map, plan))
 }
 
 // The record that a service starts with.
-#[unsafe(no_mangle)]
-pub extern "C" fn arbiter_fresh() -> Record
+pub fn arbiter_fresh() -> Record
     ensures { record_of result ≡ fresh }
 {
     Record::fresh()
 }
 
 // A bid of a task on the host's record, with the settings share and window.
-#[unsafe(no_mangle)]
-pub extern "C" fn arbiter_bid(
+pub fn arbiter_bid(
     rec: &mut Record,
     set: &[u32],
     map: &[u8],
@@ -82,24 +77,21 @@ pub extern "C" fn arbiter_bid(
 }
 
 // Again on the host's record.
-#[unsafe(no_mangle)]
-pub extern "C" fn arbiter_again(rec: &mut Record, set: &[u32]) -> Answer
+pub fn arbiter_again(rec: &mut Record, set: &[u32]) -> Answer
     ensures { ToldServed tell_again result (record_of rec.new) (again set.now (record_of rec.old)) }
 {
     answers::of_again(broker::again_in_place(rec, set))
 }
 
 // The route from the state in a record.
-#[unsafe(no_mangle)]
-pub extern "C" fn arbiter_route(rec: Record, set: &[u32], map: &[u8], steps: &mut [u8]) -> Answer
+pub fn arbiter_route(rec: Record, set: &[u32], map: &[u8], steps: &mut [u8]) -> Answer
     ensures { ToldRoute result steps.new (route set.now map.now (record_of rec) steps.old) }
 {
     answers::of_route(route::route(set, map, rec, steps))
 }
 
 // Where a state lies in a stored plan of so many tasks, without its set.
-#[unsafe(no_mangle)]
-pub extern "C" fn arbiter_locate(state: State, plan: &[u32], tasks: usize) -> Answer
+pub fn arbiter_locate(state: State, plan: &[u32], tasks: usize) -> Answer
     ensures { result ≡ struct_of (tell_location (locate state.positions plan.now tasks)) }
 {
     let positions = state.positions;
@@ -107,16 +99,14 @@ pub extern "C" fn arbiter_locate(state: State, plan: &[u32], tasks: usize) -> An
 }
 
 // A set without the devices that no task claims, read by the former rules.
-#[unsafe(no_mangle)]
-pub extern "C" fn arbiter_clean(set: &[u32], clean: &mut [u32]) -> Answer
+pub fn arbiter_clean(set: &[u32], clean: &mut [u32]) -> Answer
     ensures { ToldCleaned result clean.new (model-clean.clean set.now clean.old) }
 {
     answers::of_cleaned(cleaner::clean(set, clean))
 }
 
 // Two sets as one, whose first so many devices are the same ones.
-#[unsafe(no_mangle)]
-pub extern "C" fn arbiter_merge(
+pub fn arbiter_merge(
     first: &[u32],
     second: &[u32],
     shared: usize,
@@ -129,8 +119,7 @@ pub extern "C" fn arbiter_merge(
 }
 
 // A trial of the settings share and window: the order bids so many rounds on a fresh record, or until every task is finished. Nothing that is lent changes.
-#[unsafe(no_mangle)]
-pub extern "C" fn arbiter_trial(
+pub fn arbiter_trial(
     set: &[u32],
     map: &[u8],
     order: &[u8],

@@ -120,7 +120,7 @@ fn the_build_script_says_what_to_run_if_the_library_is_not_there() {
     let complaint = String::from_utf8(missing.stderr).unwrap();
     assert_eq!(missing.status.code(), Some(1));
     assert!(complaint.contains(&format!("there is no {}", folder.join("libarbiter.a").display())), "{complaint}");
-    assert!(complaint.contains("'rt staticlib arbiter'") && complaint.contains("ARBITER_LIB_DIR"), "{complaint}");
+    assert!(complaint.contains("'tools/build arbiter'") && complaint.contains("ARBITER_LIB_DIR"), "{complaint}");
 
     std::fs::write(folder.join("libarbiter.a"), "").unwrap();
     assert!(run(&folder).status.success());
