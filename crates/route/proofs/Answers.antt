@@ -9,7 +9,7 @@ use lib.Dec.{ltb}
 use borrow.Author.Tests.{lt-ltb, le-ltb, eq-eqb, ne_eqb, ltb-false}
 use Rattle.model.specs.Answer.{Answer, given, refused, ◌then◌, if_given}
 use Rattle.model.specs.Set.{Set, lengths_of, at, size}
-use Rattle.model.specs.State.{State, is_end, rank}
+use Rattle.model.specs.State.{State, is_end}
 use Rattle.model.specs.Read.{read}
 use Rattle.model.specs.Record.{Record, unfit}
 use Rattle.model.specs.Route.{steps_from, walked, route_from, route_fits, route_steps, route}

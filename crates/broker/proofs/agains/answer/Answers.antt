@@ -1,0 +1,22 @@
+-- `broker::agains::answer` meets its contract, by what the reader ensures of the words.
+use Rattle.model.specs.Answer.{◌then◌}
+use Rattle.reader.proofs.Facts.{accepted, turned_back}
+use Rattle.broker.proofs.agains.answer.Goals as goal
+
+pub answer_on-requires : goal.answer_on-requires
+answer_on-requires c =
+    let r = c.read-reading in
+    (_, _, (accepted _ r.result r.ensures c.in-Accepted.is).1)
+
+pub returns-in-Refused : goal.returns-in-Refused
+unfolding ◌then◌
+returns-in-Refused c =
+    let r = c.read-reading in
+    rw (turned_back _ r.result r.ensures _ _ c.in-Refused.is) c.refuse.ensures
+
+pub returns-in-Accepted : goal.returns-in-Accepted
+unfolding ◌then◌
+returns-in-Accepted c =
+    let r = c.read-reading in
+    let a = accepted _ r.result r.ensures c.in-Accepted.is in
+    rw a.0 (c.answer_on.ensures _ _ a.1)
