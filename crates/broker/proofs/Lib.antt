@@ -4,4 +4,3 @@ pub mod BidCases
 pub mod Granted
 pub mod Moved
 pub mod AgainCases
-pub mod InPlace

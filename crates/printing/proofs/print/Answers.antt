@@ -1,0 +1,55 @@
+-- `printing::print` meets its contract: by what the bytes are, what `print_plan` shows of their words, or the refusal.
+use Prim.Native.Nat.{ℕ, ◌≤◌}
+use native.Mathlib.Omega.{arith}
+use mathlib.Core.Path.{◌≡◌, refl, sym, ◌∙◌}
+use mathlib.Core.List.{List}
+use lib.ListN.{length, replicate, length-replicate}
+use lib.Seq.{length-take-le}
+use borrow.Author.Rules.{rules}
+use Rattle.model.specs.Answer.{Answer, ◌then◌}
+use Rattle.model.specs.Read.{read}
+use Rattle.model.specs.Printed.{words_of, to_print, text_of}
+use Rattle.model.proofs.ToPrint.{long-enough, too_short}
+use Rattle.listing.specs.declared.Decoded.TheVariants.{Words}
+use Rattle.listing.specs.Words.{decoded_of}
+use Rattle.listing.proofs.Callers.{word_count}
+use Rattle.listing.proofs.Shown.{words-shown, none-shown}
+use Rattle.printing.proofs.print.Goals.{In-Words}
+use Rattle.printing.proofs.print.Goals as goal
+
+-- what there is to print of a set's words
+abbrev to_show : List ℕ → Answer (List ℕ)
+to_show ws = read ws then to_print
+
+-- so many words
+decoded : (c : In-Words) → Words c.count-1.given.0.0 ≡ decoded_of (words_of c.args.bytes.now)
+decoded c = sym c.count-1.given.1 ∙ c.decode.ensures.value
+
+within : (c : In-Words) → c.count-1.given.0.0 ≤ length c.decode.new.words
+within c = omega (arith, (word_count _ _ (decoded c)).2, c.decode.auto.words, length-replicate {A = ℕ} 4096 0)
+
+pub returns-then-text-lt-TEXT : goal.returns-then-text-lt-TEXT
+returns-then-text-lt-TEXT c = let a = c.args in record { text_after = too_short a.bytes.now a.text.now c.if-text-lt-TEXT.true; upper_bound = omega arith }
+
+pub slice_bounds-words-end : goal.slice_bounds-words-end
+slice_bounds-words-end c = within (goal.at.slice_bounds-words-end c).In-Words
+
+pub slice_bounds-print_plan-end : goal.slice_bounds-print_plan-end
+slice_bounds-print_plan-end c = sym (length-take-le _ _ (within (goal.at.slice_bounds-print_plan-end c).In-Words))
+
+pub returns-in-Words : goal.returns-in-Words
+unfolding text_of
+returns-in-Words c =
+    let e = c.print_plan.ensures in
+    let a = c.args in
+    let room = length-replicate {A = ℕ} 4096 0 in
+    let s = words-shown text_of (λ n p. refl) a.text.now to_show a.bytes.now (replicate 4096 0) _ _ _ (decoded (goal.at.returns-in-Words c).In-Words) (omega arith) c.decode.ensures.words_after e.0 in
+    record { text_after = s ∙ long-enough a.bytes.now a.text.now (omega arith); upper_bound = e.1 }
+
+pub returns-in-Refused : goal.returns-in-Refused
+unfolding text_of
+returns-in-Refused c =
+    let e = c.put_refusal.ensures in
+    let a = c.args in
+    let s = none-shown text_of (λ n p. refl) a.text.now to_show a.bytes.now _ _ _ _ (sym c.number-1.given.1 ∙ c.decode.ensures.value) e.0 e.1.1 in
+    record { text_after = s ∙ long-enough a.bytes.now a.text.now (omega arith); upper_bound = omega (arith, e.1.0) }

@@ -1,0 +1,52 @@
+-- `printing::print_plan` meets its contract: by what the analysis answers, the lines of its plan, which all have room, or the refusal's.
+use Prim.Native.Nat.{ℕ, ◌≤◌}
+use native.Mathlib.Omega.{arith}
+use mathlib.Core.Path.{◌≡◌, refl, sym, ap, ◌∙◌}
+use mathlib.Core.List.{List}
+use lib.ListN.{length, take, length-replicate}
+use lib.Seq.{length-take-le}
+use borrow.Author.Rules.{rules}
+use Rattle.model.specs.Answer.{given, ◌then◌}
+use Rattle.model.specs.Read.{read}
+use Rattle.model.specs.Printed.{to_print, text_of, shown}
+use Rattle.model.proofs.Rows.{lines}
+use Rattle.listing.proofs.Shown.{all-rows, line-shown}
+use Rattle.printing.proofs.Shown.{has-plan, has-none}
+use Rattle.printing.proofs.print_plan.Goals.{In-Planned}
+use Rattle.printing.proofs.print_plan.Goals as goal
+
+-- the words of the plan are what there is to print
+whole : (c : In-Planned) →
+    ((read c.args.words.now then to_print) ≡ given (take c.count-1.given.0.0 c.analyse.new.plan))
+    × (c.count-1.given.0.0 ≤ 16384)
+whole c =
+    let a = c.analyse in
+    has-plan _ _ _ _ _ _ (omega (arith, length-replicate {A = ℕ} 65536 255)) (length-replicate {A = ℕ} 16384 0) a.ensures _ _ _ c.count-1.given.1
+
+within : (c : In-Planned) → c.count-1.given.0.0 ≤ length c.analyse.new.plan
+within c = omega (arith, (whole c).1, c.analyse.auto.plan, length-replicate {A = ℕ} 16384 0)
+
+pub slice_bounds-plan-end : goal.slice_bounds-plan-end
+slice_bounds-plan-end c = within (goal.at.slice_bounds-plan-end c).In-Planned
+
+pub slice_bounds-fill_lines-end : goal.slice_bounds-fill_lines-end
+slice_bounds-fill_lines-end c = sym (length-take-le _ _ (within (goal.at.slice_bounds-fill_lines-end c).In-Planned))
+
+pub returns-in-Planned : goal.returns-in-Planned
+unfolding text_of
+returns-in-Planned c =
+    let f = c.fill_lines.ensures in
+    let text = c.args.text.now in
+    let ws : List ℕ = take c.count-1.given.0.0 c.analyse.new.plan in
+    let n : length ws ≡ c.count-1.given.0.0 = length-take-le _ _ (within (goal.at.returns-in-Planned c).In-Planned) in
+    let few = (whole (goal.at.returns-in-Planned c).In-Planned).1 in
+    record { text_after = all-rows lines ws text _ _ (omega (arith, f.0)) f.1 ∙ ap (λ x. shown (text_of x) text) (sym (whole (goal.at.returns-in-Planned c).In-Planned).0); upper_bound = omega (arith, f.0) }
+
+pub returns-in-Refused : goal.returns-in-Refused
+unfolding text_of
+returns-in-Refused c =
+    let e = c.put_refusal.ensures in
+    let a = c.analyse in
+    let text = c.args.text.now in
+    let none = has-none _ _ _ _ _ _ (omega (arith, length-replicate {A = ℕ} 65536 255)) (length-replicate {A = ℕ} 16384 0) a.ensures _ _ c.number-1.given.1 in
+    record { text_after = line-shown text_of (λ n p. refl) text _ _ _ _ _ none e.0 e.1.1; upper_bound = omega (arith, e.1.0) }
