@@ -5,7 +5,6 @@ use mathlib.Core.Path.{◌≡◌, refl, sym, ◌∙◌}
 use mathlib.Core.List.{List}
 use lib.ListN.{length, replicate, length-replicate}
 use lib.Seq.{length-take-le}
-use borrow.Author.Rules.{rules}
 use Rattle.model.specs.Answer.{Answer, ◌then◌}
 use Rattle.model.specs.Read.{read}
 use Rattle.model.specs.Printed.{words_of, to_print, text_of}
@@ -22,10 +21,10 @@ abbrev to_show : List ℕ → Answer (List ℕ)
 to_show ws = read ws then to_print
 
 -- so many words
-decoded : (c : In-Words) → Words c.count-1.given.0.0 ≡ decoded_of (words_of c.args.bytes.now)
-decoded c = sym c.count-1.given.1 ∙ c.decode.ensures.value
+decoded : (c : In-Words) → Words c.in-Words.count ≡ decoded_of (words_of c.args.bytes.now)
+decoded c = c.in-Words.ensures.value
 
-within : (c : In-Words) → c.count-1.given.0.0 ≤ length c.decode.new.words
+within : (c : In-Words) → c.in-Words.count ≤ length c.decode.new.words
 within c = omega (arith, (word_count _ _ (decoded c)).2, c.decode.auto.words, length-replicate {A = ℕ} 4096 0)
 
 pub returns-then-text-lt-TEXT : goal.returns-then-text-lt-TEXT
@@ -43,13 +42,13 @@ returns-in-Words c =
     let e = c.print_plan.ensures in
     let a = c.args in
     let room = length-replicate {A = ℕ} 4096 0 in
-    let s = words-shown text_of (λ n p. refl) a.text.now to_show a.bytes.now (replicate 4096 0) _ _ _ (decoded (goal.at.returns-in-Words c).In-Words) (omega arith) c.decode.ensures.words_after e.0 in
-    record { text_after = s ∙ long-enough a.bytes.now a.text.now (omega arith); upper_bound = e.1 }
+    let s = words-shown text_of (λ n p. refl) a.text.now to_show a.bytes.now (replicate 4096 0) _ _ _ (decoded (goal.at.returns-in-Words c).In-Words) (omega arith) c.in-Words.ensures.words_after e.text_after in
+    record { text_after = s ∙ long-enough a.bytes.now a.text.now (omega arith); upper_bound = e.upper_bound }
 
 pub returns-in-Refused : goal.returns-in-Refused
 unfolding text_of
 returns-in-Refused c =
     let e = c.put_refusal.ensures in
     let a = c.args in
-    let s = none-shown text_of (λ n p. refl) a.text.now to_show a.bytes.now _ _ _ _ (sym c.number-1.given.1 ∙ c.decode.ensures.value) e.0 e.1.1 in
-    record { text_after = s ∙ long-enough a.bytes.now a.text.now (omega arith); upper_bound = omega (arith, e.1.0) }
+    let s = none-shown text_of (λ n p. refl) a.text.now to_show a.bytes.now _ _ _ _ c.in-Refused.ensures.value e.value e.out_after in
+    record { text_after = s ∙ long-enough a.bytes.now a.text.now (omega arith); upper_bound = omega (arith, e.upper_bound) }

@@ -5,7 +5,6 @@ use mathlib.Core.Path.{◌≡◌, refl, sym, ap, ◌∙◌}
 use mathlib.Core.List.{List}
 use lib.ListN.{length, take, length-replicate}
 use lib.Seq.{length-take-le}
-use borrow.Author.Rules.{rules}
 use Rattle.model.specs.Answer.{given, ◌then◌}
 use Rattle.model.specs.Read.{read}
 use Rattle.model.specs.Printed.{to_print, text_of, shown}
@@ -17,13 +16,11 @@ use Rattle.printing.proofs.print_plan.Goals as goal
 
 -- the words of the plan are what there is to print
 whole : (c : In-Planned) →
-    ((read c.args.words.now then to_print) ≡ given (take c.count-1.given.0.0 c.analyse.new.plan))
-    × (c.count-1.given.0.0 ≤ 16384)
-whole c =
-    let a = c.analyse in
-    has-plan _ _ _ _ _ _ (omega (arith, length-replicate {A = ℕ} 65536 255)) (length-replicate {A = ℕ} 16384 0) a.ensures _ _ _ c.count-1.given.1
+    ((read c.args.words.now then to_print) ≡ given (take c.in-Planned.count c.analyse.new.plan))
+    × (c.in-Planned.count ≤ 16384)
+whole c = has-plan _ _ _ _ _ _ (omega (arith, length-replicate {A = ℕ} 65536 255)) (length-replicate {A = ℕ} 16384 0) c.in-Planned.ensures _ _ _ refl
 
-within : (c : In-Planned) → c.count-1.given.0.0 ≤ length c.analyse.new.plan
+within : (c : In-Planned) → c.in-Planned.count ≤ length c.analyse.new.plan
 within c = omega (arith, (whole c).1, c.analyse.auto.plan, length-replicate {A = ℕ} 16384 0)
 
 pub slice_bounds-plan-end : goal.slice_bounds-plan-end
@@ -37,16 +34,15 @@ unfolding text_of
 returns-in-Planned c =
     let f = c.fill_lines.ensures in
     let text = c.args.text.now in
-    let ws : List ℕ = take c.count-1.given.0.0 c.analyse.new.plan in
-    let n : length ws ≡ c.count-1.given.0.0 = length-take-le _ _ (within (goal.at.returns-in-Planned c).In-Planned) in
+    let ws : List ℕ = take c.in-Planned.count c.analyse.new.plan in
+    let n : length ws ≡ c.in-Planned.count = length-take-le _ _ (within (goal.at.returns-in-Planned c).In-Planned) in
     let few = (whole (goal.at.returns-in-Planned c).In-Planned).1 in
-    record { text_after = all-rows lines ws text _ _ (omega (arith, f.0)) f.1 ∙ ap (λ x. shown (text_of x) text) (sym (whole (goal.at.returns-in-Planned c).In-Planned).0); upper_bound = omega (arith, f.0) }
+    record { text_after = all-rows lines ws text _ _ (omega (arith, f.value)) f.out_after ∙ ap (λ x. shown (text_of x) text) (sym (whole (goal.at.returns-in-Planned c).In-Planned).0); upper_bound = omega (arith, f.value) }
 
 pub returns-in-Refused : goal.returns-in-Refused
 unfolding text_of
 returns-in-Refused c =
     let e = c.put_refusal.ensures in
-    let a = c.analyse in
     let text = c.args.text.now in
-    let none = has-none _ _ _ _ _ _ (omega (arith, length-replicate {A = ℕ} 65536 255)) (length-replicate {A = ℕ} 16384 0) a.ensures _ _ c.number-1.given.1 in
-    record { text_after = line-shown text_of (λ n p. refl) text _ _ _ _ _ none e.0 e.1.1; upper_bound = omega (arith, e.1.0) }
+    let none = has-none _ _ _ _ _ _ (omega (arith, length-replicate {A = ℕ} 65536 255)) (length-replicate {A = ℕ} 16384 0) c.in-Refused.ensures _ _ refl in
+    record { text_after = line-shown text_of (λ n p. refl) text _ _ _ _ _ none e.value e.out_after; upper_bound = omega (arith, e.upper_bound) }
