@@ -106,12 +106,7 @@ pub fn arbiter_clean(set: &[u32], clean: &mut [u32]) -> Answer
 }
 
 // Two sets as one, whose first so many devices are the same ones.
-pub fn arbiter_merge(
-    first: &[u32],
-    second: &[u32],
-    shared: usize,
-    merged: &mut [u32],
-) -> Answer
+pub fn arbiter_merge(first: &[u32], second: &[u32], shared: usize, merged: &mut [u32]) -> Answer
     ensures { ToldMerged result merged.new
         (model-merge.merge first.now second.now shared merged.old) }
 {

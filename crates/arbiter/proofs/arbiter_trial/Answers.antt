@@ -1,5 +1,4 @@
 -- `arbiter::arbiter_trial` meets its contract: it hands on what the trial ensures.
-use borrow.Author.Rules.{rules}
 use mathlib.Core.Path.{◌≡◌, refl, ap, ◌∙◌}
 use Rattle.model.specs.Answer as model
 use Rattle.model.specs.Answer.{given, refused, ◌then◌, if_given}
@@ -9,8 +8,7 @@ use Rattle.trial.specs.declared.TrialResult.{TrialResult}
 use Rattle.trial.specs.Says.{trial_of, answer_of}
 use Rattle.arbiter.specs.declared.answers.Trial.{Trial}
 use Rattle.arbiter.specs.Told.{struct_of, trial_struct}
-use Rattle.arbiter.proofs.arbiter_trial.Statement.{statement}
-use Rattle.arbiter.proofs.arbiter_trial.Tie as tie
+use Rattle.arbiter.proofs.arbiter_trial.Goals as goal
 
 -- what is made of a result
 abbrev told : TrialResult → Trial
@@ -22,14 +20,5 @@ unfolding trial_of answer_of tell if_given ◌then◌
 tells (given k) = refl
 tells (refused n p) = refl
 
-trial-requires : tie.Need-trial-requires
-trial-requires c κs = search rules
-
-of-trial-requires : tie.Need-of-trial-requires
-of-trial-requires c κs = search rules
-
-returns : tie.Need-returns
-returns c = c.of-trial.ensures ∙ ap told c.before.trial.ensures ∙ tells _
-
-pub arbiter-trial-spec : {M : Type 1} → statement M
-arbiter-trial-spec = tie.close (tie.spec trial-requires of-trial-requires returns)
+pub returns : goal.returns
+returns c = c.of_trial.ensures ∙ ap told c.trial.ensures ∙ tells _
