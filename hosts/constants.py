@@ -33,12 +33,12 @@ MAP_BYTES = "OPEN FORBIDDEN UNSAFE DEAD".split()
 REFUSALS = """
     NO_WORDS TOO_MANY_WORDS WORD_AFTER_END UNKNOWN_KIND OUT_OF_ORDER FIELD_NOT_ALLOWED TOO_MANY CLAIM_OF_HELD RELEASE_OF_NOT_HELD STILL_HELD NO_END
     GRID_TOO_LARGE MAP_TOO_SHORT PLAN_TOO_SHORT BYTES_NOT_WORDS BAD_RECORD NO_SUCH_TASK BAD_MAP_BYTE NOT_AT_END NO_ROUTE ROUTE_TOO_SHORT
-    BAD_TASK_COUNT OUTSIDE_LAYOUT UNCLAIMED_DEVICE CLEAN_TOO_SHORT BAD_SETTING BAD_ORDER TOO_MANY_UNITS TOO_MANY_SHARED UNEQUAL_CAPACITIES MERGE_TOO_SHORT
+    BAD_TASK_COUNT OUTSIDE_LAYOUT UNCLAIMED_DEVICE CLEAN_TOO_SHORT BAD_SETTING BAD_ORDER TOO_MANY_UNITS
     """.split()
 
 # The kinds of an answer, and the version: major times 10,000, minor times 100, patch.
 ANSWER_KINDS = """
-    REFUSED ACCEPTED PLANNED ROUTED GRANTED FINISHED BUSY HELD RESTARTED IN_FORBIDDEN_BOX IN_UNSAFE_BOX IN_NO_BOX CLEANED SHARE_SPENT TRIED MERGED
+    REFUSED ACCEPTED PLANNED ROUTED GRANTED FINISHED BUSY HELD RESTARTED IN_FORBIDDEN_BOX IN_UNSAFE_BOX IN_NO_BOX CLEANED SHARE_SPENT TRIED
     """.split()
 VERSION = {"VERSION": 60000}
 
@@ -46,7 +46,14 @@ VERSION = {"VERSION": 60000}
 OF_HOSTS = {"NOT_ANALYSED": 0xFF}
 
 # What the proved source has for itself: no host lends it, and no answer has it.
-OF_SOURCE = {"THOUSAND": 1000, "CLAIM_FIELDS": LIMITS["DEVICES"] * LIMITS["EXTRA_UNITS"]}
+# The last three are the refusals of the merge, which no host can call yet.
+OF_SOURCE = {
+    "THOUSAND": 1000,
+    "CLAIM_FIELDS": LIMITS["DEVICES"] * LIMITS["EXTRA_UNITS"],
+    "TOO_MANY_SHARED": 29,
+    "UNEQUAL_CAPACITIES": 30,
+    "MERGE_TOO_SHORT": 31,
+}
 
 # What the proved source calls otherwise than hosts do: a name that is a crate's there, and a short one.
 OF_HOSTS_NAMED = {"rec": "record", "steps": "route"}
@@ -239,7 +246,7 @@ def main(root):
     compare(of_header(header), {**WANTED, **OF_HOSTS}, "arbiter.h")
     compare(of_source([root / "hosts/rust/src/plain.rs"], "plain.rs")[0], OF_HOSTS, "plain.rs")
 
-    calls = of_calls(sorted((root / "crates/arbiter/src").glob("*.rt")), r'pub extern "C" fn ', lent_in_source, "the source")
+    calls = of_calls(sorted((root / "crates/arbiter_c/src").glob("*.rt")), r'pub extern "C" fn ', lent_in_source, "the source")
     compare(of_header_calls(header), calls, "arbiter.h", "signature, its answer one that must be used,")
     compare(of_calls([root / "hosts/rust/src/sys.rs"], r"pub fn ", lambda part: [part], "sys.rs"), calls, "sys.rs", "signature")
 

@@ -4,8 +4,7 @@
  * (docs/AUTHORS.md). arbiter_analyse writes its map, a byte for each state of progress, and its plan, a list of boxes. In service
  * arbiter_bid is asked before every step of a task and says whether it may be made now; it sees to it that no task takes all the grants while
  * others could go on; arbiter_trial says beforehand what a share and a window do. arbiter_locate questions a plan that was stored, without its set.
- * arbiter_clean mends a set that was stored with devices which no task claims, arbiter_merge joins the sets of two desks that share devices.
- * docs/HOSTS.md tells the whole life of a set.
+ * arbiter_clean mends a set that was stored with devices which no task claims. docs/HOSTS.md tells the whole life of a set.
  *
  * What every call does and asks:
  * - It uses no heap, no global state, no signal and no callback, and always returns. arbiter_analyse needs some 300 KiB of stack, the others
@@ -111,11 +110,10 @@
 #define ARBITER_CLEANED 12         /* arbiter_clean: the cleaned set is written; value: its number of words */
 #define ARBITER_SHARE_SPENT 13     /* arbiter_bid: the task waits and asks again later: it has had its share, and another task is to go first */
 #define ARBITER_TRIED 14           /* arbiter_trial: the bids are made and counted; value: how many they were; beside it how they were answered */
-#define ARBITER_MERGED 15          /* arbiter_merge: the merged set is written; value: its number of words */
 
 /* The refusals of a set, 1 to 12, 24 and 28. The place is the faulty word's index, counted from 0, unless said otherwise.
  * All are the set's fault, and each comes in the same way from every call that is lent that set: return it to its author. Only arbiter_clean
- * never brings 24, which it mends; and arbiter_merge brings 7 and 12 also for the words that the two sets would make together. */
+ * never brings 24, which it mends. */
 #define ARBITER_NO_WORDS 1            /* place: 0 */
 #define ARBITER_TOO_MANY_WORDS 2      /* place: 4,096 */
 #define ARBITER_WORD_AFTER_END 3
@@ -151,12 +149,6 @@
 #define ARBITER_BAD_TASK_COUNT 22 /* place: 0; the task count isn't 1 to 8: the host's slip */
 #define ARBITER_OUTSIDE_LAYOUT 23 /* place: the first word that no plan has there, or the number of words if END is missing; the plan was cut or
                                    * damaged, or isn't one for so many tasks */
-
-/* The refusals of a merge, looked at in this order once both sets are accepted, and before the merged words are. */
-#define ARBITER_TOO_MANY_SHARED 29    /* place: 0; one of the two sets has fewer devices than they are to share: the host's slip */
-#define ARBITER_UNEQUAL_CAPACITIES 30 /* place: the lowest device that they are to share and give different capacities: it isn't the same one, or an author
-                                       * is mistaken about it */
-#define ARBITER_MERGE_TOO_SHORT 31    /* place: the length that the merged set needs; lend that much */
 
 /* What a call answers. refusal is 0 exactly where kind is not ARBITER_REFUSED. value is what the kind says, and 0 where it says nothing. */
 typedef struct arbiter_answer {
@@ -350,24 +342,6 @@ ARBITER_MUST_USE arbiter_answer arbiter_clean(const uint32_t *set, size_t set_le
  * Slices that may be empty: ARBITER_LEND(set), ARBITER_LEND(map), ARBITER_LEND(order). */
 ARBITER_MUST_USE arbiter_trial_result arbiter_trial(const uint32_t *set, size_t set_len, const uint8_t *map, size_t map_len, const uint8_t *order,
                                                     size_t order_len, uint16_t rounds, uint32_t share, uint32_t window);
-
-/* Joins two sets whose first so many devices are the same ones: devices 0 to shared - 1 of either are the devices that both desks use; with 0 they share
- * none. The merged set has the first set's devices, then the second's from number shared on; and the first set's tasks, then the second's. Those name
- * their devices by the new numbers: d stays d where it is less than shared, else it becomes d - shared + the first set's number of devices. Capacities,
- * units and the order of actions stay. So the first set's devices and tasks have their old numbers, and the second's task t is the first's number of
- * tasks + t.
- * MERGED with the number of words written, first_len + second_len - shared - 1. Or REFUSED, the first of these that applies: 1 to 12, 24 or 28 of the
- * first set; the same of the second; 29; 30; 31; and then what the merged words would bring if they were read, which can only be 7, at the 17th DEVICE
- * (place 16) or the 9th TASK, or 12 at END, each at its index in those words. A slice of first_len + second_len words is always long enough, and one of
- * 1,065 is for any two sets. The words beyond the merged set stay as they were; a refusal leaves the whole slice untouched.
- * Number and place alone don't say whose refusal it is: the first set's, the second's or that of the merged words. So read both sets before, with
- * arbiter_read: if it accepts them, 7 and 12 are about the merged words, and no other of 1 to 12, 24 and 28 comes.
- * arbiter_read accepts what is written. It is a set like any other: analyse it, and start from arbiter_fresh. Maps, plans and records of the two sets are
- * of no use with it, and two sets without an unsafe state may well have some together, if they share devices.
- * first and second may be the same memory; merged overlaps neither.
- * Slices that may be empty: ARBITER_LEND(first), ARBITER_LEND(second), ARBITER_LEND(merged). */
-ARBITER_MUST_USE arbiter_answer arbiter_merge(const uint32_t *first, size_t first_len, const uint32_t *second, size_t second_len, size_t shared,
-                                              uint32_t *merged, size_t merged_len);
 
 #ifdef __cplusplus
 }
@@ -582,7 +556,6 @@ static inline const char *arbiter_kind_text(uint32_t kind) {
     case ARBITER_CLEANED: return "cleaned";
     case ARBITER_SHARE_SPENT: return "share spent";
     case ARBITER_TRIED: return "tried";
-    case ARBITER_MERGED: return "merged";
     default: return "no answer has this kind";
     }
 }
@@ -618,9 +591,6 @@ static inline const char *arbiter_refusal_text(uint32_t refusal) {
     case ARBITER_BAD_SETTING: return "the share or the window is outside 1 to 255";
     case ARBITER_BAD_ORDER: return "the order of a trial is empty, names a task here that the set doesn't have, or goes on after 255 tasks";
     case ARBITER_TOO_MANY_UNITS: return "the task claims more units than the device has: claim fewer, or give the device a larger capacity";
-    case ARBITER_TOO_MANY_SHARED: return "the two sets can't share so many devices: one of them has fewer";
-    case ARBITER_UNEQUAL_CAPACITIES: return "the two sets give this device different capacities, though they are to share it";
-    case ARBITER_MERGE_TOO_SHORT: return "the merged set has more words than its slice";
     default: return "no refusal has this number";
     }
 }

@@ -30,8 +30,6 @@ into the two slices, then the calls are made in order, accepted or not, on what 
    15 PLACE place, tasks, tasks        eight bytes of the order's slice are replaced, from that place on; the slice has MAX_ORDER bytes, 0 at first
    16 ORDER length                     later trials are lent that much of the order's slice, nothing at first
    17 TRIAL rounds, share, window      a trial, which has a broker of its own: the record stays as it is
-   18 MERGE first, shared, length      the set's first so many words and those behind them are merged, so many of their devices being the same ones, into a slice of that length,
-                                       filled with AAAAAAAA before; if accepted, what was written is the set of all later calls
 
 Output, a line each:
     case NUMBER: PLANNED               planned WORDS, unsafe QUOTIENT/1000 rest REMAINDER, or refused N at P
@@ -45,7 +43,7 @@ and for each call that prints
     ANSWER                             for a question: forbidden INDEX, unsafe INDEX, neither or refused N at P
     swept CHECKSUM:DIGITS              for a sweep: the checksum of the indices, a word each, 0 for none, P for a refusal; and for each state
                                        1 forbidden, 2 unsafe, 0 neither, 'x' refused; over 512 states '~' and the checksum of these bytes, 255 for 'x'
-    ANSWER: WORD WORD ..               for a cleaning or a merge: cleaned WORDS, merged WORDS or refused N at P; the whole slice, as a plan's
+    ANSWER: WORD WORD ..               for a cleaning: cleaned WORDS or refused N at P; the whole slice, as a plan's
     PLANNED                            for an analysis, as for a case, and behind it the lines of the map and the plan
     ANSWER ROWS FINISHED               for a trial: tried MADE or refused N at P; eight rows, [GRANTED BUSY HELD SPENT] each, and the bids answered Finished
 RECORD, COUNTS, POKE, LEND, STORE, KEEP, PLACE and ORDER print nothing. The checksum is FNV-1a of 32 bits over the slice's bytes, a word's lowest byte first, in eight
@@ -58,21 +56,17 @@ import math
 import os
 import re
 import sys
-from collections import namedtuple
 
 import brute
-from brute import CLAIM, DEVICE, END, FRESH, RELEASE, TASK, Record, Set, Settings, claim, device_of, grid_of, lengths_of, units_of, word_bytes, words_of
+from brute import CLAIM, DEVICE, END, FRESH, RELEASE, TASK, Record, Set, Settings, claim, grid_of, lengths_of, word_bytes, words_of
 
-# A list that is too long, behind the longest set.
-MAX_SET = 4097 + 533
+MAX_SET = 4097
 MAX_MAP = 65600
 MAX_PLAN = 16400
 MAX_CALLS = 514
 MAX_SWEEP = 65536
 # An accepted set has at most 533 words.
 MAX_CLEAN = 540
-# Two such sets have one END when they are merged.
-MAX_MERGE = 1080
 # Longer than 16 bits count.
 MAX_ORDER = 65600
 MAX_ROUNDS = 65535
@@ -84,7 +78,7 @@ CLEANING_CALLS = 2
 ROW = 512
 MAX_ROUTE = ROW
 
-BID, AGAIN, ROUTE, RECORD, POKE, LEND, BID_IN_PLACE, ROUNDS, LOCATE, STORE, KEEP, SWEEP, CLEAN, ANALYSE, COUNTS, PLACE, ORDER, TRIAL, MERGE = range(19)
+BID, AGAIN, ROUTE, RECORD, POKE, LEND, BID_IN_PLACE, ROUNDS, LOCATE, STORE, KEEP, SWEEP, CLEAN, ANALYSE, COUNTS, PLACE, ORDER, TRIAL = range(18)
 
 MAP_FILL, PLAN_FILL = 0xAA, 0xAAAAAAAA
 
@@ -98,9 +92,6 @@ TRIAL_SEED = 0x747269616C736565
 
 # Sets with claims of several units too.
 UNIT_SEED = 0x756E697473656564
-
-# Merges too.
-MERGE_SEED = 0x6D65726765736565
 
 HERE = os.path.dirname(os.path.abspath(__file__))
 FILES = [os.path.join(HERE, "..", "crates", "corpus", name) for name in ("stdin", "stdout")]
@@ -235,12 +226,6 @@ class Play:
             self.words = tuple(slice_[: answer[1]])
         return "%s:%s" % (answer_text(answer), plan_text(slice_))
 
-    def merge(self, first, shared, length):
-        answer, slice_ = brute.merge(self.words[:first], self.words[first:], shared, [PLAN_FILL] * length)
-        if answer[0] == "merged":
-            self.words = tuple(slice_[: answer[1]])
-        return "%s:%s" % (answer_text(answer), plan_text(slice_))
-
     def bid(self, task, share, window):
         answer, self.record = brute.bid(self.words, self.map[: self.lent], self.record, task, Settings(share, window))
         return answer
@@ -304,8 +289,6 @@ class Play:
             self.ordered = a
         elif kind == TRIAL:
             self.lines.append(self.trial(a, b, c))
-        elif kind == MERGE:
-            self.lines.append(self.merge(a, b, c))
 
 
 # --- Sets ---
@@ -1914,317 +1897,11 @@ def unit_cases(dice):
     return [with_settings(dice, case) for case in cases] + unit_service_cases(dice)
 
 
-# --- Merges ---
-
-# Pairs of sets in the notation above, and how many devices are the same ones: two desks that claim two devices crosswise, and so wait for each other; a ring that a second desk closes;
-# a gateway whose units both claim, alone and with devices of their own; all devices the same ones, and none; a desk without a device.
-MERGE_PAIRS = [
-    ("11 +0+1-1-0", "11 +1+0-0-1", 2),
-    ("11 +0+1-1-0", "11 +1+0-0-1", 1),
-    ("11 +0+1-1-0", "11 +1+0-0-1", 0),
-    ("111 +0+2-0-2 +2+1-2-1", "11 +1+0-1-0", 2),
-    ("3 +0x2-0 +0-0", "3 +0x2-0", 1),
-    ("31 +0x2+1-1-0", "32 +0+1x2-1-0", 1),
-    ("312 +0x2+1-1+2-2-0 +2x2-2", "381 +2+0x3-0-2 +1x8-1", 1),
-    ("33 +0x2+1x2-1-0", "33 +1x2+0x2-0-1", 2),
-    ("1218 +3x8-3+2+0-2-0 +1x2-1", "121 +0+2-2-0+1-1", 3),
-    ("8 +0x8-0", "8 +0-0+0x3-0", 1),
-    ("111 +0+1+2-2-1-0", "111 +2+1+0-0-1-2", 3),
-    ("12 +0+1x2-1-0 +1-1", "1 +0-0", 0),
-    ("1 +0-0", "12 +0+1x2-1-0 +1-1", 1),
-    ("1 +0-0", "1 +0-0", 1),
-]
-
-# A desk with one task that does nothing, and no device.
-IDLE_DESK = Set([], [[]])
-
-
-def written_pairs():
-    return [(written_set(first), written_set(second), shared) for first, second, shared in MERGE_PAIRS]
-
-
-def in_turn(capacities, lengths):
-    """Tasks of these even action counts that claim and release the devices one after the other, each task going on with the next."""
-    devices = itertools.cycle(range(len(capacities)))
-    return Set(list(capacities), [[action for device in itertools.islice(devices, length // 2) for action in ((CLAIM, device), (RELEASE, device))] for length in lengths])
-
-
-def with_capacities(s, capacities):
-    """The set with these capacities of its first devices; a claim of more units than there are then takes all."""
-    new = list(capacities) + s.capacities[len(capacities) :]
-    tasks = [[claim(device_of(action), min(units_of(action), new[device_of(action)])) if action[0] == CLAIM else action for action in task] for task in s.tasks]
-    return Set(new, tasks)
-
-
-def desk_set(dice, limit):
-    """A clean random set whose grid is at most `limit`, in one of four with units."""
-    return brute.cleaned(dice.pick([random_set, deep_set, deep_set, unit_set])(dice, limit))
-
-
-def some_pair(dice, limit):
-    """Two clean random sets and a number of devices that they can share. The product of their grids is at most `limit`, and their tasks are at most eight."""
-    while True:
-        part = dice.pick([1, 3, 5, 9, 15, 25])
-        limits = dice.mixed([limit // part, part])
-        s, t = desk_set(dice, limits[0]), desk_set(dice, limits[1])
-        most = min(len(s.capacities), len(t.capacities))
-        shared = dice.pick([0, most, most, dice.below(most + 1)])
-        if len(s.tasks) + len(t.tasks) <= 8:
-            return s, with_capacities(t, s.capacities[:shared]), shared
-
-
-def other_capacities(dice, s, shared):
-    """The set with another capacity of one of its first so many devices, or of several."""
-    capacities = s.capacities[:shared]
-    for device in dice.mixed(range(shared))[: dice.pick([1, 1, 2, 3])]:
-        capacities[device] = dice.pick([capacity for capacity in range(1, 9) if capacity != capacities[device]])
-    return with_capacities(s, capacities)
-
-
-def too_many(dice, s, t):
-    """Numbers of devices above one of the two counts, or above both."""
-    counts = len(s.capacities), len(t.capacities)
-    return [min(counts) + 1, max(counts), max(counts) + 1] if counts[0] != counts[1] else [counts[0] + 1, dice.pick([17, 255, 256, 0x10000, 0x80000000, 0xFFFFFFFF])]
-
-
-def words_needed(s, t, shared):
-    return len(words_of(*brute.merged(s, t, shared)))
-
-
-def merge_call(s, shared, length):
-    """A merge of this set's words with those that stand behind them."""
-    return (MERGE, len(words_of(*s)), shared, length)
-
-
-def refused_merge_calls(dice, s, t, shared):
-    """With slices that are too short, by one word and by more, and too many devices."""
-    need = words_needed(s, t, shared)
-    calls = [merge_call(s, shared, length) for length in (0, need - 1, dice.below(need))]
-    return dice.mixed(calls + [merge_call(s, number, dice.pick([0, need, need + 3])) for number in too_many(dice, s, t) if number > min(len(s.capacities), len(t.capacities))])
-
-
-def merged_case(dice, s, t, shared, calls, finishes=False):
-    """Merges that are refused; the merge, into a slice that fits or leaves room, and the analysis of the merged set; its plan at every state, and calls on it."""
-    u = brute.merged(s, t, shared)
-    first = refused_merge_calls(dice, s, t, shared) + [merge_call(s, shared, words_needed(s, t, shared) + dice.pick([0, 0, 1, 2, 5])), (ANALYSE,)]
-    return Case(words_of(*s) + words_of(*t), grid_of(u) + dice.below(2), plan_length(u) + dice.below(2), first + own_plan_calls(u) + calls, finishes)
-
-
-def known_merge_cases(dice):
-    """The known pairs, each with rounds that finish it; every number of devices that they can share; and each with a desk that does nothing, before it and behind it."""
-    cases = []
-    for s, t, shared in written_pairs():
-        u = brute.merged(s, t, shared)
-        cases.append(merged_case(dice, s, t, shared, round_calls(dice, u, sum(lengths_of(u))), True))
-        for number in range(min(len(s.capacities), len(t.capacities)) + 1):
-            other = with_capacities(t, s.capacities[:number])
-            cases.append(merged_case(dice, s, other, number, edge_calls(dice, brute.merged(s, other, number))))
-    for s in (crossing(2), ring(3), written_set(UNIT_SETS[0]), written_set(BOTH_DEAD[0]), written_set(ONLY_UNREACHED[0]), IDLE_DESK):
-        cases += [merged_case(dice, *pair, 0, random_calls(dice, s, 6)) for pair in ((s, IDLE_DESK), (IDLE_DESK, s))]
-    return cases
-
-
-def random_merge_cases(dice):
-    """Random pairs, with every kind of calls on what they are merged to, and with rounds."""
-    kinds = call_kinds(dice)
-    cases = []
-    for number in range(120):
-        s, t, shared = some_pair(dice, dice.pick([60, 100, 200, 300]))
-        cases.append(merged_case(dice, s, t, shared, kinds[number % len(kinds)](brute.merged(s, t, shared))))
-    for _ in range(40):
-        s, t, shared = some_pair(dice, dice.pick([60, 120, 240]))
-        u = brute.merged(s, t, shared)
-        cases.append(merged_case(dice, s, t, shared, round_calls(dice, u, sum(lengths_of(u))), True))
-    return cases
-
-
-def unequal_case(dice, s, t, shared):
-    """Capacities that differ: with every number of devices, and slices that would fit, that are too short and empty; the last merge is of those before the first that differs."""
-    other = other_capacities(dice, t, shared)
-    lowest = next(device for device in range(shared) if other.capacities[device] != s.capacities[device])
-    calls = [merge_call(s, number, dice.pick([0, 3, 100, 100])) for number in range(lowest + 1, min(len(s.capacities), len(t.capacities)) + 3)]
-    calls += [merge_call(s, lowest, words_needed(s, other, lowest) + dice.pick([0, 1])), (LEND, 0), (BID, 0, 1, 1)]
-    return Case(words_of(*s) + words_of(*other), 1, 0, calls)
-
-
-def unequal_cases(dice):
-    cases = [unequal_case(dice, in_turn(capacities, [32]), in_turn(capacities, [32, 2]), shared) for capacities, shared in (([1] * 16, 16), (list(range(1, 9)) * 2, 16), ([8] * 9, 7))]
-    while len(cases) < 60:
-        s, t, shared = some_pair(dice, 60)
-        if shared > 0:
-            cases.append(unequal_case(dice, s, t, shared))
-    return cases
-
-
-# Two sets by their capacities and their tasks' action counts, at the limits of a merged set and over them: 16 devices, eight tasks, 65,536 states, several at once, and
-# the longest sets that there are.
-MERGE_LIMITS = [
-    ([1] * 16, [32], [1] * 16, [32]),
-    ([2] * 9, [18], [2] * 8, [16]),
-    ([3] * 8, [16], [3] * 9, [18]),
-    ([1] * 16, [32], [], [0]),
-    ([], [0], [8] * 16, [32]),
-    ([1], [2, 0, 2, 0], [1], [0, 2, 0, 0]),
-    ([1], [2, 0, 2, 0, 2], [1], [0, 2, 0, 4]),
-    ([1], [2] * 4, [1], [4, 2, 0, 0, 0]),
-    ([1, 2], [4] + [0] * 7, [1], [2]),
-    ([1], [2], [1, 2], [4] + [0] * 7),
-    ([1], [0] * 7 + [4], [1], [0] * 7 + [2]),
-    ([1] * 9, [18] + [0] * 4, [1] * 9, [18] + [0] * 3),
-    ([1] * 9, [16, 16, 16], [1] * 9, [18]),
-    ([2], [254], [2], [254]),
-    ([2], [254, 254], [], [0]),
-    ([], [0], [2], [254, 254]),
-    ([2], [254, 254], [2], [2]),
-    ([2], [2], [2], [254, 254]),
-    ([1], [12, 70], [1], [70]),
-    ([1], [10, 58], [1], [100]),
-    ([1], [16, 16, 16, 0, 0], [1], [16, 0, 0]),
-    ([1], [16, 16, 16, 0, 0], [1], [16, 0, 0, 0]),
-    ([1] * 9, [16, 16, 16, 0, 0], [1] * 9, [18, 0, 0, 0]),
-    ([5] * 16, [254, 0, 0, 0], [5] * 16, [254, 0, 0, 0]),
-    ([5] * 16, [254, 254] + [0] * 6, [5] * 16, [254, 254] + [0] * 6),
-]
-
-
-def limit_pairs():
-    """Each with no device the same, with one, with all but one and with all."""
-    pairs = []
-    for capacities, lengths, others, other_lengths in MERGE_LIMITS:
-        s, t = in_turn(capacities, lengths), in_turn(others, other_lengths)
-        most = min(len(capacities), len(others))
-        pairs += [(s, t, shared) for shared in sorted({0, min(1, most), max(0, most - 1), most})]
-    return pairs
-
-
-def limit_cases(dice):
-    """These in slices that fit or are longer, and that are too short; 13 tells the grid of what comes out. The last is a merged set of 65,025 states with its map."""
-    cases = []
-    for s, t, shared in limit_pairs():
-        need = words_needed(s, t, shared)
-        calls = [merge_call(s, shared, length) for length in (need - 1, dice.below(need), need + dice.pick([0, 0, 1, 7]))]
-        cases.append(Case(words_of(*s) + words_of(*t), 1, 0, calls + [(LEND, 0), (BID, 0, 1, 1)]))
-    s = in_turn([2] * 16, [254])
-    calls = [merge_call(s, 16, words_needed(s, s, 16)), (ANALYSE,), (BID, 0, 1, 1), (BID, 1, 1, 1)]
-    return cases + [Case(words_of(*s) * 2, 65025, 1, calls)]
-
-
-# What a merge can be refused with, in the order in which it is told.
-MERGE_FAULTS = ("first", "second", 29, 30, 31, "17th device", "9th task", 12)
-
-# Two sets' words, how many devices are shared, a slice's length, and the refusal that each of its faults would bring; how many words a merge without them writes.
-FaultyMerge = namedtuple("FaultyMerge", "first second shared length told need")
-
-
-def merge_faults_together():
-    """Every choice of faults. Sets of which one has fewer devices than are shared have together at most 16 of them."""
-    choices = [choice for count in range(9) for choice in itertools.combinations(MERGE_FAULTS, count)]
-    return [choice for choice in choices if not {29, "17th device"} <= set(choice)]
-
-
-def spoilt_words(dice, words):
-    """The words with a fault, and its refusal: no words, an unknown kind, no END, END with another count."""
-    place = dice.below(len(words))
-    unknown = words[:place] + [dice.pick([0, 6, 15]) << 28] + words[place + 1 :]
-    last = len(words) - 1
-    choices = [([], ("refused", 1, 0)), (unknown, ("refused", 4, place)), (words[:-1], ("refused", 11, last)), (words[:-1] + [words[-1] + 1], ("refused", 6, last))]
-    return dice.pick(choices)
-
-
-def device_counts(dice, faults):
-    """How many devices the two sets have, and how many are shared: together over 16, or at most so many; shared above either count or both, or above neither."""
-    if "17th device" in faults:
-        shared, devices = dice.between(1, 6), dice.between(17, 20)
-        first = dice.between(devices + shared - 16, 16)
-        return first, devices + shared - first, shared
-    low, high = dice.between(1, 4), dice.between(5, 8)
-    if 29 in faults:
-        return dice.pick([(low, high, dice.between(low + 1, high)), (high, low, dice.between(low + 1, high)), (low, high, high + 1), (low, low, dice.pick([low + 1, 17, 256]))])
-    return dice.pick([(low, high, low), (high, low, low), (high, high, dice.between(1, high)), (high, low, dice.between(1, low))])
-
-
-def faulty_merge(dice, faults):
-    """A merge with these faults and no others."""
-    first, second, shared = device_counts(dice, faults)
-    lengths, tasks = [16, 16, 16] if 12 in faults else [32, 0, 2], 9 if "9th task" in faults else dice.between(4, 8)
-    idle = dice.between(0, tasks - 4)
-    capacities = [dice.between(1, 8) for _ in range(first)]
-    s = in_turn(capacities, lengths + [0] * idle)
-    t = in_turn((capacities[:shared] + [dice.between(1, 8) for _ in range(second)])[:second], [0] * (tasks - 4 - idle) + [32])
-    need = len(words_of(*s)) + len(words_of(*t)) - shared - 1
-    told = {29: ("refused", 29, 0), 31: ("refused", 31, need), "17th device": ("refused", 7, 16), 12: ("refused", 12, need - 1)}
-    if 30 in faults:
-        compared = min(first, second, shared)
-        t = other_capacities(dice, t, compared)
-        told[30] = ("refused", 30, min(device for device in range(compared) if s.capacities[device] != t.capacities[device]))
-    if "9th task" in faults:
-        told["9th task"] = ("refused", 7, first + second - shared + sum(length + 1 for length in (lengths_of(s) + lengths_of(t))[:8]))
-    one, other = words_of(*s), words_of(*t)
-    if "first" in faults:
-        one, told["first"] = spoilt_words(dice, one)
-    if "second" in faults:
-        other, told["second"] = spoilt_words(dice, other)
-    length = max(0, dice.pick([0, need - 1, dice.below(max(1, need))]) if 31 in faults else need + dice.pick([0, 0, 1, 9]))
-    return FaultyMerge(one, other, shared, length, {fault: told[fault] for fault in faults}, need)
-
-
-def choice_cases(dice):
-    """Every choice of faults in a merge."""
-    cases = []
-    for faults in merge_faults_together():
-        made = faulty_merge(dice, faults)
-        cases.append(Case(made.first + made.second, 1, 0, [(MERGE, len(made.first), made.shared, min(MAX_MERGE, made.length)), (LEND, 0), (BID, 0, 1, 1)]))
-    return cases
-
-
-def refused_lists(dice, most):
-    """Words for each refusal of a set, up to so many for each."""
-    lists, met = [], {}
-    for words in dice.mixed(faulty_lists(dice) + unit_lists(dice) + [words_of(*unclean_set(dice, 30)) for _ in range(8)]):
-        said = brute.read_set(words)
-        number = 0 if isinstance(said, Set) else said[1]
-        met[number] = met.get(number, 0) + 1
-        if 0 < number and met[number] <= most:
-            lists.append(words)
-    return lists
-
-
-def refused_merge_cases(dice):
-    """Words that are refused as the first set, as the second and as both, beside sets that aren't; damaged sets; and words that are cut in two at every place."""
-    cases = []
-    good = [words_of(*s) for s in (crossing(2), IDLE_DESK, in_turn([3] * 5, [10, 4]))]
-    for words in refused_lists(dice, 4):
-        other = dice.pick(good)
-        cases += [merged_words_case(dice, *pair) for pair in ((words, other), (other, words))]
-    few = [words for words in refused_lists(dice, 2) if len(words) < 600]
-    cases += [merged_words_case(dice, words, dice.pick(few)) for words in few]
-    for _ in range(100):
-        s, t, _ = some_pair(dice, 60)
-        one, other = words_of(*s), words_of(*t)
-        cases.append(merged_words_case(dice, *dice.pick([(mutated(dice, one), other), (one, mutated(dice, other)), (mutated(dice, one), mutated(dice, other))])))
-    for s, t, shared in (written_pairs()[0], written_pairs()[5], (IDLE_DESK, crossing(2), 0)):
-        words = words_of(*s) + words_of(*t)
-        cases.append(Case(words, 1, 0, [(MERGE, place, shared, dice.below(8)) for place in range(len(words) + 2)]))
-    return cases
-
-
-def merged_words_case(dice, first, second):
-    """Two lists of words with any number of devices, in slices of any length; what is accepted is told with its grid."""
-    calls = [(MERGE, len(first), dice.pick([0, 1, 2, 17, 0xFFFFFFFF]), length) for length in (0, dice.below(20))]
-    return Case(first + second, 1, 0, calls + [(MERGE, len(first), dice.pick([0, 0, 1, 2]), 60), (LEND, 0), (BID, 0, 1, 1)])
-
-
-def merge_cases(dice):
-    """Merges: known pairs, random ones, and capacities that differ; the limits of a merged set; every choice of faults; and words that are refused."""
-    cases = [with_settings(dice, case) for case in known_merge_cases(dice) + random_merge_cases(dice)]
-    return cases + unequal_cases(dice) + limit_cases(dice) + choice_cases(dice) + refused_merge_cases(dice)
-
-
 def all_cases():
     dice, shares = Dice(SEED), Dice(SHARE_SEED)
     cases = named_cases(dice, named_sets()) + dead_cases(dice) + small_cases(dice) + faulty_cases(dice) + large_cases(dice) + stored_cases(dice)
     cases = [with_cleaning(case) for case in cases] + cleaning_cases(dice) + [with_cleaning(case) for case in counted_cases(dice)]
-    return [with_settings(shares, case) for case in cases] + share_cases(shares) + trial_cases(Dice(TRIAL_SEED)) + unit_cases(Dice(UNIT_SEED)) + merge_cases(Dice(MERGE_SEED))
+    return [with_settings(shares, case) for case in cases] + share_cases(shares) + trial_cases(Dice(TRIAL_SEED)) + unit_cases(Dice(UNIT_SEED))
 
 
 def swept_states(tasks, low, high):
@@ -2251,7 +1928,6 @@ def encoded(cases):
             assert call[0] != PLACE or call[1] + 8 <= MAX_ORDER
             assert call[0] != ORDER or call[1] <= MAX_ORDER
             assert call[0] != TRIAL or call[1] <= MAX_ROUNDS
-            assert call[0] != MERGE or call[3] <= MAX_MERGE
             words += call
     return word_bytes(words)
 

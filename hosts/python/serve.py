@@ -53,7 +53,6 @@ CALLS = {
     "arbiter_locate": ([State] + WORDS + [c_size_t], Answer),  # for hosts that keep plans, which this one doesn't
     "arbiter_clean": (WORDS + WORDS, Answer),  # for hosts that keep sets
     "arbiter_trial": (WORDS + BYTES + BYTES + [c_uint16, c_uint32, c_uint32], Trial),
-    "arbiter_merge": (WORDS + WORDS + [c_size_t] + WORDS, Answer),  # for hosts that join sets
     "arbiter_refusal_text": ([c_uint32], c_char_p),
 }
 

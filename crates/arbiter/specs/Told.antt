@@ -6,7 +6,7 @@ use Rattle.model.specs.Analysis.{Analysed}
 use Rattle.model.specs.Broker.{Served}
 use Rattle.model.specs.Route.{Routed}
 use Rattle.model.specs.Clean.{Cleaned}
-use Rattle.model.specs.Told.{Told, AnalysisTold, TrialTold, tell_analysis, tell_route, tell_cleaned, tell_merged}
+use Rattle.model.specs.Told.{Told, AnalysisTold, TrialTold, tell_analysis, tell_route, tell_cleaned}
 use Rattle.trial.specs.Says.{tally_of}
 use Rattle.arbiter.specs.declared.answers.Answer.{Answer}
 use Rattle.arbiter.specs.declared.answers.Analysis.{Analysis}
@@ -39,7 +39,3 @@ ToldRoute r steps a = (r ≡ struct_of (tell_route a.answer)) × (steps ≡ a.ro
 -- the answer, and the slice afterwards, of the cleaner
 abbrev pub ToldCleaned : Answer → List ℕ → Cleaned → Type 0
 ToldCleaned r slice a = (r ≡ struct_of (tell_cleaned a.answer)) × (slice ≡ a.slice)
-
--- and of the merge
-abbrev pub ToldMerged : Answer → List ℕ → model.Written → Type 0
-ToldMerged r slice a = (r ≡ struct_of (tell_merged a.answer)) × (slice ≡ a.slice)

@@ -1,21 +1,19 @@
 // What hosts are told: one struct of numbers for the answers of all calls.
 ghost use Rattle.std.specs.Prelude.{◌≡◌, List, ℕ};
 ghost use Rattle.model.specs.Read.{read};
-ghost use Rattle.model.specs.Told.{tell_reading, tell_analysis, tell_route, tell_bid, tell_again, tell_location, tell_cleaned, tell_merged, tell_made};
+ghost use Rattle.model.specs.Told.{tell_reading, tell_analysis, tell_route, tell_bid, tell_again, tell_location, tell_cleaned, tell_made};
 ghost use Rattle.reader.specs.Answer.{answer};
 ghost use Rattle.analysis.specs.Says as analysis-says;
 ghost use Rattle.broker.specs.Says.{bid_of, again_of};
 ghost use Rattle.route.specs.Says as route-says;
 ghost use Rattle.plan_reader.specs.Says as plan-says;
 ghost use Rattle.cleaner.specs.Says as clean-says;
-ghost use Rattle.merge.specs.Says as merge-says;
 ghost use Rattle.trial.specs.Says as trial-says;
 ghost use Rattle.arbiter.specs.Told.{struct_of, analysis_of};
 
 use analysis::Outcome;
 use broker::{AgainAnswer, BidAnswer};
 use cleaner::CleanAnswer;
-use merge::MergeAnswer;
 use plan_reader::Located;
 use reader::{Reading, Verdict};
 use route::RouteAnswer;
@@ -23,7 +21,7 @@ use trial::{Tally, TrialAnswer, TrialResult};
 
 // The kinds of an answer. A zeroed answer is a refusal, so a host that asked nothing is granted nothing. The value is a refusal's place, the grid of a set that is
 // read, the number of plan words, the number of a route's steps, the busy device, the rank of a state held back from, the index
-// of the first word of a box, the number of a cleaned or merged set's words, or the number of a trial's bids; the other kinds have none.
+// of the first word of a box, the number of a cleaned set's words, or the number of a trial's bids; the other kinds have none.
 pub const REFUSED: u32 = 0;
 
 pub const ACCEPTED: u32 = 1;
@@ -53,8 +51,6 @@ pub const CLEANED: u32 = 12;
 pub const SHARE_SPENT: u32 = 13;
 
 pub const TRIED: u32 = 14;
-
-pub const MERGED: u32 = 15;
 
 // Sixteen bytes without a gap: the kind; the refusal's number, 0 without one; the value, 0 without one.
 #[repr(C)]
@@ -201,15 +197,6 @@ pub(crate) fn of_cleaned(answer: CleanAnswer) -> Answer
     match answer {
         CleanAnswer::Cleaned { words } => valued(CLEANED, words),
         CleanAnswer::Refused { number, place } => refuse(number, place),
-    }
-}
-
-pub(crate) fn of_merged(answer: MergeAnswer) -> Answer
-    ensures { result ≡ struct_of (tell_merged (merge-says.answer_of answer)) }
-{
-    match answer {
-        MergeAnswer::Merged { words } => valued(MERGED, words),
-        MergeAnswer::Refused { number, place } => refuse(number, place),
     }
 }
 

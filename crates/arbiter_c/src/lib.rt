@@ -9,11 +9,10 @@ ghost use Rattle.model.specs.Broker.{bid, again};
 ghost use Rattle.model.specs.Route.{route};
 ghost use Rattle.model.specs.StoredPlan.{locate};
 ghost use Rattle.model.specs.Clean as model-clean;
-ghost use Rattle.model.specs.Merge as model-merge;
 ghost use Rattle.model.specs.Trial as model-trial;
 ghost use Rattle.model.specs.Told.{VERSION, tell_reading, tell_bid, tell_again, tell_location, tell_trial};
 ghost use Rattle.records.specs.Says.{record_of};
-ghost use Rattle.arbiter.specs.Told.{struct_of, trial_struct, ToldAnalysis, ToldServed, ToldRoute, ToldCleaned, ToldMerged};
+ghost use Rattle.arbiter.specs.Told.{struct_of, trial_struct, ToldAnalysis, ToldServed, ToldRoute, ToldCleaned};
 
 use arbiter::{Analysis, Answer, State, Trial};
 use records::Record;
@@ -96,20 +95,6 @@ pub extern "C" fn arbiter_clean(set: &[u32], clean: &mut [u32]) -> Answer
     ensures { ToldCleaned result clean.new (model-clean.clean set.now clean.old) }
 {
     arbiter::arbiter_clean(set, clean)
-}
-
-// Two sets as one, whose first so many devices are the same ones.
-#[unsafe(no_mangle)]
-pub extern "C" fn arbiter_merge(
-    first: &[u32],
-    second: &[u32],
-    shared: usize,
-    merged: &mut [u32],
-) -> Answer
-    ensures { ToldMerged result merged.new
-        (model-merge.merge first.now second.now shared merged.old) }
-{
-    arbiter::arbiter_merge(first, second, shared, merged)
 }
 
 // A trial of the settings share and window: the order bids so many rounds on a fresh record, or until every task is finished. Nothing that is lent changes.

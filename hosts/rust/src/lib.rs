@@ -34,7 +34,7 @@
 //! Only an analysis makes an [`Analysed`], and a [`Service`] owns one together with its record, so no bid is ever asked of another map, set or
 //! record. Both need a heap. The calls over slices that the caller lends are in [`plain`], which says what they trust; [`Set`], [`State`] and
 //! [`Plan`] read words for either. [`Plan::locate`] questions a plan that was stored, without its set. [`cleaned`] and [`Set::clean`] mend a set that was stored
-//! with devices which no task claims, and is now refused. [`merged`] and [`Set::merge`] join the sets of two desks that share devices.
+//! with devices which no task claims, and is now refused.
 //!
 //! The library has no state of its own, so every call may be made from any thread. What must not be shared is what Rust doesn't let one share:
 //! a bid takes `&mut self`. An analysis needs some 300 KiB of stack.
@@ -44,8 +44,7 @@
 //!
 //! # Features
 //!
-//! `std`, which is on by default, adds `std::error::Error` for [`Refused`] to `alloc`. `alloc` has [`Analysed`], [`Service`], [`words_of`], [`cleaned`] and
-//! [`merged`].
+//! `std`, which is on by default, adds `std::error::Error` for [`Refused`] to `alloc`. `alloc` has [`Analysed`], [`Service`], [`words_of`] and [`cleaned`].
 //! Without either the crate needs `core` alone.
 
 #![no_std]
@@ -70,8 +69,6 @@ pub mod sys;
 mod analysed;
 mod answers;
 mod cleaning;
-#[cfg(feature = "alloc")]
-mod merging;
 pub mod plain;
 mod plan;
 mod record;
@@ -90,8 +87,6 @@ pub use answers::{BidAnswer, Location, NoSuchRefusal, PerThousand, Planned, Refu
 #[cfg(feature = "alloc")]
 pub use cleaning::cleaned;
 pub use cleaning::is_claimed;
-#[cfg(feature = "alloc")]
-pub use merging::merged;
 pub use plan::{BoxKind, Plan, PlanBox};
 pub use record::{Counts, Positions, Record};
 #[cfg(feature = "alloc")]
@@ -168,17 +163,11 @@ pub enum Refusal {
     BadOrder = sys::BAD_ORDER,
     /// A claim of more units than the device has; the place is the word's index. Looked at before [`ClaimOfHeld`](Refusal::ClaimOfHeld).
     TooManyUnits = sys::TOO_MANY_UNITS,
-    /// One of the two sets of a merge has fewer devices than they are to share; the place is 0.
-    TooManyShared = sys::TOO_MANY_SHARED,
-    /// The two sets of a merge give a device that they are to share different capacities; the place is its number, the lowest such.
-    UnequalCapacities = sys::UNEQUAL_CAPACITIES,
-    /// The slice is shorter than the merged set, whose length is the place.
-    MergeTooShort = sys::MERGE_TOO_SHORT,
 }
 
 impl Refusal {
     /// All refusals by rising number, from 1.
-    pub const ALL: [Refusal; 31] = [
+    pub const ALL: [Refusal; 28] = [
         Refusal::NoWords,
         Refusal::TooManyWords,
         Refusal::WordAfterEnd,
@@ -207,9 +196,6 @@ impl Refusal {
         Refusal::BadSetting,
         Refusal::BadOrder,
         Refusal::TooManyUnits,
-        Refusal::TooManyShared,
-        Refusal::UnequalCapacities,
-        Refusal::MergeTooShort,
     ];
 
     /// The refusal's number in `docs/SCOPE.md`, "Refusals"; `TryFrom<u8>` goes the other way.
@@ -254,9 +240,6 @@ impl Refusal {
             Refusal::BadSetting => "the share or the window is outside 1 to 255",
             Refusal::BadOrder => "the order of a trial is empty, names a task here that the set doesn't have, or goes on after 255 tasks",
             Refusal::TooManyUnits => "the task claims more units than the device has: claim fewer, or give the device a larger capacity",
-            Refusal::TooManyShared => "the two sets can't share so many devices: one of them has fewer",
-            Refusal::UnequalCapacities => "the two sets give this device different capacities, though they are to share it",
-            Refusal::MergeTooShort => "the merged set has more words than its slice",
         }
     }
 }

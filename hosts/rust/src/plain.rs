@@ -9,7 +9,7 @@
 //! - **the record is as the last call left it**, and the only one for the set's devices.
 //!
 //! [`Analysed`](crate::Analysed) and [`Service`](crate::Service) see to all three; they are this module's calls with the slices in one hand.
-//! [`trial`] has a record of its own, and changes nothing. [`locate`], [`clean`] and [`merge`] take none of these, and trust nothing. Of [`Settings`], which come with each
+//! [`trial`] has a record of its own, and changes nothing. [`locate`] and [`clean`] take none of these, and trust nothing. Of [`Settings`], which come with each
 //! [`bid`] and [`trial`], none does harm: what isn't allowed is refused.
 //!
 //! ```
@@ -258,46 +258,5 @@ pub fn trial(set: &[u32], map: &[u8], order: &[u8], rounds: u16, settings: Setti
     match answer.kind {
         sys::TRIED => Ok(Trial { made: answer.value, rows: rows.map(Tally::from), finished }),
         _ => Err(refused("arbiter_trial", answer)),
-    }
-}
-
-/// Joins two sets whose first `shared` devices are the same ones, and answers the number of words: the devices of the first set, then the second's from number `shared`
-/// on; the tasks of the first set, then the second's, which name their devices by the new numbers. Claims keep their units.
-///
-/// A slice as long as both sets together is always long enough, and one of 1,065 words for any two. The words beyond the merged set keep what they had. What is written
-/// is accepted by [`read`], and is a set like any other: maps, plans and records of the two sets are of no use with it, and two sets without an unsafe state may have
-/// some together.
-///
-/// ```
-/// use arbiter::plain;
-///
-/// // Both desks use the gateway, device 0. The second has a recorder besides, its device 1, which becomes device 2: the first has a pager as device 1.
-/// let first = [0x10000003, 0x10000001, 0x20000000, 0x30010000, 0x30000001, 0x40000001, 0x40000000, 0x50000007];
-/// let second = [0x10000003, 0x10000001, 0x20000000, 0x30000001, 0x30010000, 0x40000000, 0x40000001, 0x50000007];
-/// let mut merged = [0; 16];
-/// let words = plain::merge(&first, &second, 1, &mut merged)?;
-/// assert_eq!(merged[..words], [
-///     0x10000003, 0x10000001, 0x10000001, 0x20000000, 0x30010000, 0x30000001, 0x40000001, 0x40000000, 0x20000000, 0x30000002, 0x30010000, 0x40000000,
-///     0x40000002, 0x5000000D,
-/// ]);
-/// # Ok::<(), arbiter::Refused>(())
-/// ```
-///
-/// # Errors
-///
-/// Refusals 1 to 12, 24 and 28 of the first set; the same of the second; 29, 30 and 31; and then 7 and 12 of the merged words. They leave the slice untouched. Number and
-/// place don't say whose they are: with sets that were read before, as [`Set::merge`](crate::Set::merge) takes them, 7 and 12 are about the merged words, and no other of
-/// 1 to 12, 24 and 28 comes.
-///
-/// # Panics
-///
-/// If the linked library isn't the one that belongs to this crate.
-pub fn merge(first: &[u32], second: &[u32], shared: usize, merged: &mut [u32]) -> Result<usize, Refused> {
-    version::check();
-    // SAFETY: as in `analyse`.
-    let answer = unsafe { sys::arbiter_merge(first.as_ptr(), first.len(), second.as_ptr(), second.len(), shared, merged.as_mut_ptr(), merged.len()) };
-    match answer.kind {
-        sys::MERGED => Ok(value_of(answer)),
-        _ => Err(refused("arbiter_merge", answer)),
     }
 }

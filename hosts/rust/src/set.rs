@@ -98,22 +98,6 @@ impl<'a> Set<'a> {
         Set::read(&slice[..length])
     }
 
-    /// Joins this set and a second one whose first so many devices are the same as this one's: writes the words of both together, as [`plain::merge`] does, and
-    /// reads what is written. The second set's other devices follow this one's, and its tasks come after. A slice as long as both sets together is always long
-    /// enough, and one of 1,065 words for any two.
-    ///
-    /// # Errors
-    ///
-    /// 29, 30 and 31, and then 7 and 12, which are about the merged words, since both sets are accepted already. They leave the slice untouched.
-    ///
-    /// # Panics
-    ///
-    /// If the linked library isn't the one that belongs to this crate.
-    pub fn merge<'b>(self, second: Set<'_>, shared: usize, slice: &'b mut [u32]) -> Result<Set<'b>, Refused> {
-        let length = plain::merge(self.words, second.words, shared, slice)?;
-        Set::read(&slice[..length])
-    }
-
     /// Its words.
     pub fn words(self) -> &'a [u32] {
         self.words

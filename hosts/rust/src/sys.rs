@@ -109,19 +109,10 @@ extern "C" {
         share: u32,
         window: u32,
     ) -> Trial;
-    pub fn arbiter_merge(
-        first: *const u32,
-        first_len: usize,
-        second: *const u32,
-        second_len: usize,
-        shared: usize,
-        merged: *mut u32,
-        merged_len: usize,
-    ) -> Answer;
 }
 
 // The version that this interface is of, and the library must be: major times 10,000, minor times 100, patch.
-pub const VERSION: u32 = 60100;
+pub const VERSION: u32 = 60000;
 
 // The kinds of an answer. A zeroed answer is a refusal.
 pub const REFUSED: u32 = 0; // value: the refusal's place
@@ -139,7 +130,6 @@ pub const IN_NO_BOX: u32 = 11;
 pub const CLEANED: u32 = 12; // value: the number of words of the cleaned set
 pub const SHARE_SPENT: u32 = 13;
 pub const TRIED: u32 = 14; // value: the number of bids made; the rows stand beside the answer
-pub const MERGED: u32 = 15; // value: the number of words of the merged set
 
 // The limits of a set.
 pub const MAX_WORDS: usize = 4096;
@@ -218,8 +208,3 @@ pub const BAD_ORDER: u8 = 27;
 // The refusals of a stored plan.
 pub const BAD_TASK_COUNT: u8 = 22;
 pub const OUTSIDE_LAYOUT: u8 = 23;
-
-// The refusals of a merge.
-pub const TOO_MANY_SHARED: u8 = 29;
-pub const UNEQUAL_CAPACITIES: u8 = 30;
-pub const MERGE_TOO_SHORT: u8 = 31;

@@ -7,14 +7,14 @@ fn device(capacity: usize) -> u32 {
     0x1000_0000 | capacity as u32
 }
 const TASK: u32 = 0x2000_0000;
-pub fn claim(device: usize) -> u32 {
+fn claim(device: usize) -> u32 {
     claim_of(1, device)
 }
 /// A claim of so many units, 1 to 256.
 fn claim_of(units: usize, device: usize) -> u32 {
     0x3000_0000 | (units as u32 - 1) << 16 | device as u32
 }
-pub fn release(device: usize) -> u32 {
+fn release(device: usize) -> u32 {
     0x4000_0000 | device as u32
 }
 fn end(index: usize) -> u32 {
@@ -138,13 +138,13 @@ fn actions(random: &mut Random, length: usize, devices: &[usize]) -> Vec<u32> {
     actions
 }
 
-pub fn capacities(random: &mut Random, devices: usize) -> Vec<usize> {
+fn capacities(random: &mut Random, devices: usize) -> Vec<usize> {
     let tight = random.one_in(2);
     (0..devices).map(|_| if tight { random.pick(&[1, 1, 1, 1, 2]) } else { random.pick(&[1, 1, 2, 2, 3, 4, 5, 6, 7, 8]) }).collect()
 }
 
 /// Any set with these action counts: idle tasks and several holds of one device come of themselves.
-pub fn any_set(random: &mut Random, lengths: &[usize]) -> Vec<u32> {
+fn any_set(random: &mut Random, lengths: &[usize]) -> Vec<u32> {
     let mut devices = random.pick(&[0, 1, 1, 2, 2, 3, 3, 4, 5, 8, 16]);
     if lengths.iter().any(|&length| length > 0) {
         devices = devices.max(1);
@@ -155,7 +155,7 @@ pub fn any_set(random: &mut Random, lengths: &[usize]) -> Vec<u32> {
     set_of(&capacities, &tasks)
 }
 
-pub fn sized(random: &mut Random, grids: &[usize]) -> Vec<u32> {
+fn sized(random: &mut Random, grids: &[usize]) -> Vec<u32> {
     let tasks = random.between(1, 8);
     let most = random.pick(grids);
     let lengths = lengths(random, tasks, most);
@@ -563,7 +563,7 @@ fn units_of_claims(random: &mut Random, capacity: usize, claims: usize) -> Vec<u
 }
 
 /// The list with other capacities, mostly above 1, and units for the claims of what it declares. Nothing else in it changes.
-pub fn with_units(random: &mut Random, words: &[u32]) -> Vec<u32> {
+fn with_units(random: &mut Random, words: &[u32]) -> Vec<u32> {
     let mut list = words.to_vec();
     for number in 0..declared(words) {
         let capacity = random.pick(&[1, 2, 2, 2, 3, 3, 3, 4, 5, MOST_CAPACITY]);
@@ -694,7 +694,7 @@ pub fn with_unclaimed(random: &mut Random, words: &[u32], places: &[usize]) -> V
 }
 
 /// How many devices a list begins with.
-pub fn declared(words: &[u32]) -> usize {
+fn declared(words: &[u32]) -> usize {
     words.iter().take_while(|word| **word >> 28 == 1).count()
 }
 

@@ -2,12 +2,10 @@
 
 use crate::cleaning::Cleanings;
 use crate::fenced::Fenced;
-use crate::merge_cases::Pair;
-use crate::merges::{self, Merges};
 use crate::per_thousand::{self, Parts};
 use crate::questions::Asked;
 use crate::random::Random;
-use crate::reference::{self, Analysis, Answer, Record, Settings, State, Tally, Trial, Worked};
+use crate::reference::{Analysis, Answer, Record, Settings, State, Tally, Trial, Worked};
 use crate::shares::{self, Shares};
 use crate::stored_plan;
 use crate::trial_cases::Lent;
@@ -16,7 +14,7 @@ use crate::units::Units;
 use arbiter::sys;
 use std::fmt::Debug;
 
-pub const CALLS: [&str; 9] = ["read", "analyse", "bid", "again", "route", "locate", "clean", "trial", "merge"];
+pub const CALLS: [&str; 8] = ["read", "analyse", "bid", "again", "route", "locate", "clean", "trial"];
 
 #[derive(Clone, Copy)]
 pub enum Call {
@@ -28,14 +26,13 @@ pub enum Call {
     Locate,
     Clean,
     Trial,
-    Merge,
 }
 
 /// How often each call gave each answer.
 #[derive(Default)]
 pub struct Seen {
-    pub kinds: [[u64; 16]; CALLS.len()],
-    pub refusals: [[u64; 32]; CALLS.len()],
+    pub kinds: [[u64; 15]; CALLS.len()],
+    pub refusals: [[u64; 29]; CALLS.len()],
 }
 
 /// The dead states of a set, if it has any.
@@ -108,7 +105,6 @@ pub struct Checker {
     pub units: Units,
     pub shares: Shares,
     pub trials: Trials,
-    pub merges: Merges,
     /// Said first when something differs.
     pub input: String,
 }
@@ -129,7 +125,6 @@ fn told(answer: &sys::Answer) -> Answer {
         sys::IN_NO_BOX => Answer::InNoBox,
         sys::CLEANED => Answer::Cleaned(answer.value),
         sys::TRIED => Answer::Tried(answer.value),
-        sys::MERGED => Answer::Merged(answer.value),
         _ => Answer::Refused(crate::reference::Refusal { number: answer.refusal, place: answer.value }),
     }
 }
@@ -153,7 +148,6 @@ pub fn laid_out(answer: Answer) -> sys::Answer {
         Answer::InNoBox => of(sys::IN_NO_BOX, 0),
         Answer::Cleaned(words) => of(sys::CLEANED, words),
         Answer::Tried(made) => of(sys::TRIED, made),
-        Answer::Merged(words) => of(sys::MERGED, words),
     }
 }
 
@@ -207,7 +201,6 @@ impl Checker {
             units: Units::default(),
             shares: Shares::default(),
             trials: Trials::default(),
-            merges: Merges::default(),
             input: String::new(),
         }
     }
@@ -463,45 +456,6 @@ impl Checker {
     pub fn cleaned(&self, words: &[u32], is_so: bool, what: impl Fn() -> String) {
         if !is_so {
             self.fail(&Made { call: Call::Clean, words, beside: String::new(), map: None }, what());
-        }
-    }
-
-    /// The words that are written, if any are.
-    pub fn merge(&mut self, random: &mut Random, pair: &Pair) -> Option<Vec<u32>> {
-        let Pair { first, second, shared, room, .. } = pair;
-        let list = |words: &[u32]| words.iter().map(|word| format!("{word:08X}")).collect::<Vec<String>>().join(" ");
-        let beside = format!(" with {shared} devices shared and a slice of {room}; the second list ({} words): {}", second.len(), list(second));
-        let made = Made { call: Call::Merge, words: first, beside, map: None };
-        // Behind each list stand words that it might go on with.
-        let lent_first = Fenced::new(random, first.len(), |i| first.get(i).copied().unwrap_or(0x2000_0000));
-        let lent_second = Fenced::new(random, second.len(), |i| second.get(i).copied().unwrap_or(0x2000_0000));
-        let before = (lent_first.clone(), lent_second.clone());
-        let salt = random.next() as u32;
-        let mut merged = Fenced::new(random, *room, |i| salt ^ (i as u32).wrapping_mul(0x9E37_79B1));
-        let mut other = merged.clone();
-        let library = unsafe {
-            // A set may be merged with itself, from the same memory.
-            let (first, second, merged) = (lent_first.read(), if pair.is_same { lent_first.read() } else { lent_second.read() }, merged.lent());
-            sys::arbiter_merge(first.as_ptr(), first.len(), second.as_ptr(), second.len(), *shared, merged.as_mut_ptr(), merged.len())
-        };
-        let reference = reference::merge(&pair.first_set, &pair.second_set, *shared, other.lent());
-        self.answers(&made, library, reference);
-        self.alike(&made, "slice for the merged set", &merged, &other);
-        self.alike(&made, "first set", &lent_first, &before.0);
-        self.alike(&made, "second set", &lent_second, &before.1);
-        let done = merges::Made { pair, answer: library, slice: merged.read() };
-        if let Some(fault) = self.merges.count(&done) {
-            self.fail(&made, format!("the library answers {library:?}: {fault}"));
-        }
-        (library.kind == sys::MERGED).then(|| merged.read()[..library.value as usize].to_vec())
-    }
-
-    /// What must be so of a set that was merged, beside its two parts.
-    pub fn merged(&self, pair: &Pair, fault: Option<String>) {
-        if let Some(what) = fault {
-            let second: Vec<String> = pair.second.iter().map(|word| format!("{word:08X}")).collect();
-            let beside = format!(" with {} devices shared; the second list: {}", pair.shared, second.join(" "));
-            self.fail(&Made { call: Call::Merge, words: &pair.first, beside, map: None }, what);
         }
     }
 

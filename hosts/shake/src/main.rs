@@ -11,8 +11,6 @@ mod checker;
 mod cleaning;
 mod fenced;
 mod long_run;
-mod merge_cases;
-mod merges;
 mod package;
 mod per_thousand;
 mod plan_cases;
@@ -36,7 +34,6 @@ const INPUTS: u64 = 250_000;
 const MOST_BIDS: u64 = 10_000_000;
 const SEED: u64 = 0x7469_726C_757A_6B61;
 const TRIALS: u64 = 0x7472_6961_6C73;
-const MERGES: u64 = 0x6D65_7267_6573;
 
 /// The analysis needs some 300 KiB; a call that took much more would end this thread.
 const STACK: usize = 1 << 20;
@@ -77,7 +74,6 @@ fn main() {
         println!("{}", checker.cleanings);
         println!("{}", checker.shares);
         println!("{}", checker.trials);
-        println!("{}", checker.merges);
         let long = long_runs(seed, (100 * last).min(MOST_BIDS));
         long_trials(last);
         all_seen(&checker, last);
@@ -98,8 +94,6 @@ fn shake(checker: &mut Checker, seed: u64, input: u64) {
     let mut asking = Random::new(!seed, input);
     // And so do trials.
     let mut trying = Random::new(seed ^ TRIALS, input);
-    // And merges.
-    let mut joining = Random::new(seed ^ MERGES, input);
     let words = cases::words(random, input);
     let worked = Worked::new(&words);
     checker.input = format!("to see it again: shake replay {seed} {input}");
@@ -107,7 +101,6 @@ fn shake(checker: &mut Checker, seed: u64, input: u64) {
     checker.units.count(&words, &worked);
     questions::of_no_set(checker, &mut asking);
     cleaning::of_list(checker, random, &words, &worked);
-    merges::of_list(checker, &mut joining, input, &words, &worked);
     match &worked.set {
         Err(_) => {
             refused(checker, random, &words, &worked);
@@ -287,7 +280,7 @@ fn calls(seen: &Seen) -> u64 {
     seen.kinds.iter().flatten().sum()
 }
 
-const KINDS: [&str; 16] = [
+const KINDS: [&str; 15] = [
     "refused",
     "accepted",
     "planned",
@@ -303,7 +296,6 @@ const KINDS: [&str; 16] = [
     "cleaned",
     "share spent",
     "tried",
-    "merged",
 ];
 
 fn print_table(seen: &Seen) {
@@ -315,13 +307,13 @@ fn print_table(seen: &Seen) {
     for (kind, name) in KINDS.iter().enumerate() {
         line(name, std::array::from_fn(|call| seen.kinds[call][kind]));
     }
-    for number in 1..32 {
+    for number in 1..29 {
         line(&format!("refused {number}"), std::array::from_fn(|call| seen.refusals[call][number]));
     }
 }
 
-/// Every answer that docs/SCOPE.md gives a call, every sort of dead states, of parts per thousand, of shares, of trials and of merges, every fault of a plan and every sort of
-/// list with units and of list to clean must have come, or the run shows less than it says. 15 is the printer's alone.
+/// Every answer that docs/SCOPE.md gives a call, every sort of dead states, of parts per thousand, of shares and of trials, every fault of a plan and every sort of list with
+/// units and of list to clean must have come, or the run shows less than it says. 15 is the printer's alone.
 fn all_seen(checker: &Checker, inputs: u64) {
     let seen = &checker.seen;
     const OF_A_SET: [usize; 14] = [1, 2, 3, 4, 5, 6, 7, 28, 8, 9, 10, 11, 12, 24];
@@ -335,11 +327,9 @@ fn all_seen(checker: &Checker, inputs: u64) {
         (&[9, 10, 11], &[22, 23], &[]),
         (&[12], &[25], &OF_A_SET[..13]),
         (&[14], &[13, 16, 18, 26, 27], &OF_A_SET),
-        (&[15], &[29, 30, 31], &OF_A_SET),
     ];
     let mut missing: Vec<String> = checker.sets.missing().chain(checker.parts.missing()).chain(checker.shares.missing()).collect();
     missing.extend(checker.trials.missing());
-    missing.extend(checker.merges.missing());
     missing.extend(checker.cleanings.missing(1 + inputs / 2000));
     missing.extend(checker.units.missing(1 + inputs / 2000));
     for ((name, _), _) in FAULTS.iter().zip(checker.asked.faults).filter(|(_, count)| *count == 0) {

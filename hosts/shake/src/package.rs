@@ -1,10 +1,9 @@
 //! What the package for Rust makes of an accepted set, held to the reference: the set's parts and states, the plan's boxes, an analysis that finds its own room, a
-//! short service, and trials; and what it makes of any list that is to be cleaned, and of any two that are to be merged.
+//! short service, and trials; and what it makes of any list that is to be cleaned.
 
 use crate::cases;
-use crate::merge_cases::Pair;
 use crate::random::Random;
-use crate::reference::{held_after, merge, Action, Answer, Refusal, Set, State, Worked};
+use crate::reference::{held_after, Action, Answer, Refusal, Set, State, Worked};
 use crate::stored_plan;
 use crate::trial_cases::{self, Lent};
 use arbiter::{Analysed, BidAnswer, BoxKind, Location, PerThousand, Plan, Record, Refused, Service, Settings, Tally, Trial};
@@ -92,31 +91,6 @@ pub fn check_cleaning(random: &mut Random, words: &[u32], worked: &Worked) -> Re
         same("number of states of a cleaned set", package.states(), set.grid())?;
         let kept: Vec<usize> = (0..=set.capacities.len()).filter(|&device| arbiter::is_claimed(words, device)).collect();
         same("devices that are kept", kept, set.claimed())?;
-    }
-    Ok(())
-}
-
-/// And for two lists, good or bad, that are to be merged.
-pub fn check_merge(random: &mut Random, pair: &Pair) -> Result<(), String> {
-    let Pair { first, second, shared, .. } = pair;
-    let room = if random.one_in(2) { first.len() + second.len() } else { pair.room };
-    // What the reference answers to a slice of this length, and what it leaves there.
-    let wanted = |room: usize| {
-        let mut slice = vec![0; room];
-        match merge(&pair.first_set, &pair.second_set, *shared, &mut slice) {
-            Answer::Merged(length) => Ok(slice[..length as usize].to_vec()),
-            Answer::Refused(refusal) => Err(refusal),
-            answer => panic!("a merge is answered {answer:?}"),
-        }
-    };
-    let (mut slice, mut other) = (vec![0; room], vec![0; room]);
-    let length = arbiter::plain::merge(first, second, *shared, &mut slice);
-    same("merged words", length.map(|length| slice[..length].to_vec()).map_err(number_and_place), wanted(room))?;
-    if let (Ok(first), Ok(second)) = (arbiter::Set::read(first), arbiter::Set::read(second)) {
-        let set = first.merge(second, *shared, &mut other);
-        same("merged set", set.map(|set| set.words().to_vec()).map_err(number_and_place), wanted(room))?;
-        same("number of states of a merged set", set.map_or(0, arbiter::Set::states), set.map_or(0, |_| first.states() * second.states()))?;
-        same("merged by the package's own slice", arbiter::merged(first, second, *shared).map_err(number_and_place), wanted(first.words().len() + second.words().len()))?;
     }
     Ok(())
 }
