@@ -5,10 +5,12 @@ mod states;
 
 use analysis::Outcome;
 use broker::{AgainAnswer, BidAnswer};
-use libc::STDOUT_FILENO;
 use plan_reader::Located;
 pub use states::{UNREAD, positions_up_to, state_at};
 use trial::{Tally, TrialAnswer};
+
+// The file descriptor of standard output.
+const STDOUT_FILENO: i32 = 1;
 
 pub fn text(bytes: &[u8]) {
     io::write_all(STDOUT_FILENO, bytes);

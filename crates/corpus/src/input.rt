@@ -1,5 +1,7 @@
 // Standard input: its words, and a case's header.
-use libc::STDIN_FILENO;
+
+// The file descriptor of standard input.
+const STDIN_FILENO: i32 = 0;
 
 // A call's words: its kind and three values.
 pub const CALL_WORDS: usize = 4;

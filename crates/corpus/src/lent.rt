@@ -1,5 +1,4 @@
-// A record that is lent, as a host lends its own. The borrow checker doesn't cover a reference to a struct, so what stands here is proved by hand and does no more
-// than lend.
+// A record that is lent, as a host lends its own.
 ghost use Rattle.std.specs.Prelude.{◌≡◌};
 ghost use Rattle.model.specs.Broker as model;
 ghost use Rattle.records.specs.Says.{record_of};

@@ -1,35 +1,31 @@
-// What the programs that read a file have in common: what they are asked for, numbers among it, standard input read to its end, a write that failed, and their version.
+// What the programs that read a file have in common: what they are asked for, numbers among it, their input read to its end, a read or a write that failed, and their
+// version.
 #![tactic(auto)]
 
 mod arguments;
+mod failures;
 mod input;
 mod numbers;
 
-pub use arguments::{Asked, read_arguments};
+pub use arguments::{Asked, is_given, read_arguments};
+pub use failures::{fail, written};
 pub use input::{Input, read_all};
-use libc::STDOUT_FILENO;
 pub use numbers::{Number, read_number};
+use std::io::Result;
 
 // The parts of a version's number.
 const MAJOR: u32 = 10000;
 
 const MINOR: u32 = 100;
 
-// Says it on standard error where something was not written.
-pub fn written(all: bool, otherwise: &[u8]) {
-    if !all {
-        os::fail(otherwise);
-    }
+// A program's name and version, on one line.
+pub fn print_version(rt: &impl Print, name: &str) -> Result<()> {
+    rt.print(name)?;
+    print_part(rt, model::VERSION / MAJOR, ".")?;
+    print_part(rt, model::VERSION / MINOR % MINOR, ".")?;
+    print_part(rt, model::VERSION % MINOR, "\n")
 }
 
-// A program's name and version, on one line; false if they can't be written.
-pub fn print_version(name: &[u8]) -> bool {
-    io::write_all(STDOUT_FILENO, name)
-        && print_part(model::VERSION / MAJOR, b".")
-        && print_part(model::VERSION / MINOR % MINOR, b".")
-        && print_part(model::VERSION % MINOR, b"\n")
-}
-
-fn print_part(n: u32, after: &[u8]) -> bool {
-    io::print_decimal(STDOUT_FILENO, n as u64) && io::write_all(STDOUT_FILENO, after)
+fn print_part(rt: &impl Print, n: u32, after: &str) -> Result<()> {
+    print!(rt; "{n}{after}")
 }

@@ -1,10 +1,10 @@
 // The arguments that are numbers: rounds, share and window.
 use broker::Settings;
-use libc::STDERR_FILENO;
 use program::Number;
+use std::env::Env;
 
 // How many arguments there are, the program's own name among them.
-pub const COUNT: usize = 5;
+const COUNT: usize = 5;
 
 const ROUNDS: usize = 2;
 
@@ -25,26 +25,31 @@ pub enum Wanted {
     Nothing,
 }
 
-pub fn complain(line: &[u8]) {
-    io::write_all(STDERR_FILENO, line);
+pub fn complain(rt: &impl Eprint, line: &str) {
+    let _ = rt.eprint(line);
+}
+
+// Whether there are as many as a trial takes, and no more.
+pub fn are_complete(rt: HostRuntime) -> bool {
+    program::is_given(rt, COUNT - 1) && !program::is_given(rt, COUNT)
 }
 
 // Settings are taken as they are: which of them are allowed is the trial's matter.
-pub fn read_wanted() -> Wanted {
-    let given = number_at(ROUNDS);
+pub fn read_wanted(rt: HostRuntime) -> Wanted {
+    let given = number_at(rt, ROUNDS);
     let Number::Is(rounds) = given else {
-        return without_rounds();
+        return without_rounds(&rt);
     };
     if MAX_ROUNDS < rounds {
-        return without_rounds();
+        return without_rounds(&rt);
     }
-    let given = number_at(SHARE);
+    let given = number_at(rt, SHARE);
     let Number::Is(share) = given else {
-        return without(b"run_trial: SHARE must be a number from 1 to 255\n");
+        return without(&rt, "run_trial: SHARE must be a number from 1 to 255\n");
     };
-    let given = number_at(WINDOW);
+    let given = number_at(rt, WINDOW);
     let Number::Is(window) = given else {
-        return without(b"run_trial: WINDOW must be a number from 1 to 255\n");
+        return without(&rt, "run_trial: WINDOW must be a number from 1 to 255\n");
     };
     Wanted::Trial {
         rounds: rounds as u16,
@@ -55,17 +60,19 @@ pub fn read_wanted() -> Wanted {
     }
 }
 
-fn without_rounds() -> Wanted {
-    without(b"run_trial: ROUNDS must be a number from 0 to 65535\n")
+fn without_rounds(rt: &impl Eprint) -> Wanted {
+    without(rt, "run_trial: ROUNDS must be a number from 0 to 65535\n")
 }
 
-fn without(line: &[u8]) -> Wanted {
-    complain(line);
+fn without(rt: &impl Eprint, line: &str) -> Wanted {
+    complain(rt, line);
     Wanted::Nothing
 }
 
-fn number_at(i: usize) -> Number {
+fn number_at(rt: HostRuntime, i: usize) -> Number {
     let mut word = [0u8; LONGEST];
-    let n = os::arg(i, &mut word);
+    let Ok(n) = rt.arg(i, &mut word) else {
+        return Number::Other;
+    };
     program::read_number(&word[..n])
 }

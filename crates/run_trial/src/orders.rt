@@ -4,6 +4,7 @@ ghost use Rattle.io.specs.Counts.{IsPrefixLen};
 
 use crate::arguments::complain;
 use program::Number;
+use std::env::Env;
 
 const ORDER: usize = 1;
 
@@ -24,27 +25,27 @@ pub struct Order {
 }
 
 // Puts the order's tasks at the start of `order`, as many as there is room for. What is no order is said.
-pub fn read_order(order: &mut [u8]) -> Order
+pub fn read_order(rt: HostRuntime, order: &mut [u8]) -> Order
     ensures { IsPrefixLen result.count order.new }
 {
     let mut text = [0u8; TEXT];
-    let n = os::arg(ORDER, &mut text);
-    if os::errno() != 0 {
-        return without(b"run_trial: ORDER is too long, it may have 255 tasks\n");
-    }
+    let Ok(n) = rt.arg(ORDER, &mut text) else {
+        return without(&rt, "run_trial: ORDER is too long, it may have 255 tasks\n");
+    };
     let read = fill_order(&text[..n], order);
     if read.wrong {
         return without(
-            b"run_trial: ORDER must be task numbers from 0 to 7 with commas between them, as 0,1,0,2\n",
+            &rt,
+            "run_trial: ORDER must be task numbers from 0 to 7 with commas between them, as 0,1,0,2\n",
         );
     }
     read
 }
 
-fn without(line: &[u8]) -> Order
+fn without(rt: &impl Eprint, line: &str) -> Order
     ensures { result.count ≤ 0 }
 {
-    complain(line);
+    complain(rt, line);
     no_order()
 }
 
