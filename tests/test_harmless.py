@@ -5,8 +5,8 @@ as crates/CRATE/must-fail/NAME.edit, but not its meaning, and the prover must ac
 both in the same way: here in a copy of the tree, where the harmless ones stand in the place of the must-fail ones. rt begins with what it
 kept of this tree, so that nothing is proved again.
 
-Beside that, each line that rt ci wrote of a must-fail edit is looked at: an error in src/ or specs/ would mean that the edit's own text is
-no Rattle or antt, and that it was refused for that and not for what it says.
+Beside that, rt ci must have said of each must-fail edit that it is refused, and each such line, which has the first error, is looked at: an
+error in src/ or specs/ would mean that the edit's own text is no Rattle or antt, and that it was refused for that and not for what it says.
 """
 
 import re
@@ -26,6 +26,10 @@ ACCEPTED = "rt: must-fail %s.edit: NOT REFUSED"
 
 def name_of(edit):
     return f"{edit.parent.name}/{edit.stem}"
+
+
+def must_fail_edits():
+    return sorted(ROOT.glob("crates/*/must-fail/*.edit"))
 
 
 def replaced(edit):
@@ -65,7 +69,10 @@ def refused(edits):
 
 
 def of_own_text(told):
-    """A complaint for each must-fail edit whose own text is wrong."""
+    """A complaint for each must-fail edit whose own text is wrong, and for edits of which nothing is told."""
+    names = {f"{edit.parent.parent.name}/{edit.stem}" for edit in must_fail_edits()}
+    for name in sorted(names - {line.group(1) for line in told}):
+        yield f"{name}: rt ci didn't say that it is refused"
     for line in told:
         error = OWN_TEXT.search(line.group())
         if error:
@@ -76,11 +83,12 @@ def main():
     edits = sorted(HARMLESS.glob("*/*.edit"))
     if not edits:
         sys.exit("tests/harmless has no edit")
-    told = [line for path in sys.argv[1:] for line in TOLD.finditer(Path(path).read_text(encoding="utf-8"))]
-    complaints = [*without_twin(edits), *of_own_text(told)] or refused(edits)
+    verdicts = [Path(path).read_text(encoding="utf-8") for path in sys.argv[1:]]
+    told = [line for verdict in verdicts for line in TOLD.finditer(verdict)]
+    complaints = [*without_twin(edits), *(of_own_text(told) if verdicts else [])] or refused(edits)
     if complaints:
         sys.exit("\n".join(complaints))
-    read = f"of {len(told)} must-fail edits none was refused for its own text" if told else "rt ci tried no edit anew, so none was looked at"
+    read = f"of {len(told)} must-fail edits none was refused for its own text" if verdicts else "without rt ci's output no must-fail edit was looked at"
     print(f"{len(edits)} harmless edits accepted; {read}")
 
 
