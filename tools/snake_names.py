@@ -8,7 +8,7 @@ What turns, as whole words, in every .antt file and in every .rt file below crat
   a constant of the layout with a dash: DEAD-STATE is DEAD_STATE, as the code spells it.
 A lemma's name keeps its dashes: they join the names that it speaks of. Functions of src/, strings and comments' prose stay.
 OTHER has the names whose plain turn would meet another name in the same file; LEMMAS the lemmas that had such a name first.
-Run at the top of the repository. A second run changes nothing.
+Run it once, at the top of the repository, right after port.py: what the check names later, as in-ShareSpent, is spelled after the source.
 """
 
 import collections
@@ -17,7 +17,6 @@ import re
 
 WORD = re.compile(r"[A-Za-zℕ_][\w'₀₁₂₃₄₅₆₇₈₉\-ℕ]*")
 HEX = re.compile(r"x[0-9A-F_]+$")
-CAMEL = re.compile(r"[a-z_].*|[a-z]")
 
 # unsafe_states is a parameter and a field of the code where the definition is cited.
 OTHER = {"unsafeStates": "unsafe_states_of", "permittedStates": "permitted_states_of"}
