@@ -1,8 +1,8 @@
 #!/usr/bin/env python3
 """constants.py [ROOT]: holds the numbers of the proved source, the C header and the Rust interface to docs/SCOPE.md and to each other.
 
-The same names with the same values must stand in all three, none missing and none left over but for what one side has for itself: X in the source,
-ARBITER_X in C, X in Rust; in the source and in Rust with the same type. So must the calls, each with the names and types of what is lent, in their order, and the type of its
+The same names with the same values must stand in all three, none missing and none left over but for what one side has for itself: X in the source, or a
+variant of an enum (NoWords for NO_WORDS), ARBITER_X in C, X in Rust; in the source and in Rust with the same type. So must the calls, each with the names and types of what is lent, in their order, and the type of its
 answer, and in C marked as one whose answer must be used; and the structs that go through them, each with the names and types of its fields, in their order. The refusals' texts
 must be the same in C and Rust. The host in Python has all calls and structs with these types, and what numbers it has are these.
 ROOT is the repository, by default the one that this file is in.
@@ -105,6 +105,21 @@ def of_source(paths, where):
     rows = re.findall(r"^pub const (\w+): (\w+) = ([^;]+);", text, re.M)
     values = once([(name, number(value, where)) for name, _, value in rows], where)
     return values, {name: kind for name, kind, _ in rows}
+
+
+def of_enums(paths, where):
+    """The variants of the source's enums that have numbers, by the names that hosts use: name to value, and name to the type of the enum's `number`."""
+    text = "\n".join(path.read_text() for path in paths)
+    values, types = [], {}
+    for enum, body in re.findall(r"^pub enum (\w+) \{([^}]*)\}", text, re.M):
+        variants = re.findall(r"^ {4}(\w+) = (\d+),", body, re.M)
+        of_number = re.search(rf"^impl {enum} \{{\n(?:.*\n)*?.*fn number\(self\) -> (\w+)", text, re.M)
+        if variants and not of_number:
+            complaints.append(f"{where}: the enum {enum} has no number")
+        names = [screaming(variant) for variant, _ in variants]
+        values += zip(names, [number(value, where) for _, value in variants])
+        types.update({name: of_number and of_number[1] for name in names})
+    return once(values, where), types
 
 
 def of_header(path):
@@ -228,6 +243,10 @@ def python_fields(fields):
     return [field.replace("MAX_TASKS", str(LIMITS["MAX_TASKS"])).replace(": u64", ": usize") for field in fields]
 
 
+def screaming(name):
+    return re.sub(r"(?<!^)(?=[A-Z])", "_", name).upper()
+
+
 def camel(name):
     return "".join(part.capitalize() for part in name.split("_"))
 
@@ -238,6 +257,11 @@ def main(root):
     safe = root / "hosts/rust/src/lib.rs"
 
     values, types = of_source(source, "the source")
+    numbered_enums = [root / "crates/set_words/src/kinds.rt", root / "crates/refusals/src/lib.rt", root / "crates/arbiter/src/answers.rt"]
+    enum_values, enum_types = of_enums(numbered_enums, "the source")
+    for name in values.keys() & enum_values.keys():
+        complaints.append(f"the source: {name} is a constant and a variant")
+    values, types = {**values, **enum_values}, {**types, **enum_types}
     compare(values, {**WANTED, **OF_SOURCE}, "the source")
     rust_values, rust_types = of_source([root / "hosts/rust/src/sys.rs"], "sys.rs")
     compare(rust_values, WANTED, "sys.rs")

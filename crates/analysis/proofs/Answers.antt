@@ -1,4 +1,5 @@
 -- What each way through the analysis answers and leaves.
+use Rattle.std.specs.Prelude.{Option, Some, None, Ok, Err}
 use Prim.Native.Nat.{ℕ, ◌+◌, ◌<◌, ◌≤◌}
 use native.Mathlib.Omega.{arith}
 use mathlib.Core.Path.{◌≡◌, sym, ap, ◌∙◌}
@@ -16,40 +17,41 @@ use Rattle.model.specs.Slice.{over}
 use Rattle.model.specs.Analysis.{plan_fits, planned, analyse}
 use Rattle.model.proofs.DeadRanks.{map_length}
 use Rattle.plan_words.specs.Words.{Wrote}
-use Rattle.plan_words.specs.declared.Placed.{Placed}
-use Rattle.plan_words.specs.declared.Placed.TheVariants.{Next, Full}
 use Rattle.plan_words.proofs.Write.{read_next, read-full}
-use Rattle.analysis.specs.declared.Outcome.{Outcome}
-use Rattle.analysis.specs.declared.Outcome.TheVariants.{Refused}
-use Rattle.analysis.specs.Says.{answer_of, analysed_of}
+use Rattle.refusals.specs.declared.Reason.TheVariants.{MapTooShort, PlanTooShort}
+use Rattle.refusals.specs.declared.Refusal.{Refusal}
+use Rattle.refusals.specs.Answers.{number_of, answer_of}
+use Rattle.analysis.specs.declared.Planned.{Planned}
+use Rattle.analysis.specs.Says.{planned_of, analysed_of}
 use Rattle.analysis.specs.Sections.{HasMap}
 
 -- the refusals of a set
-pub turned_back : (words map plan : List ℕ) (n p : ℕ) → read words ≡ refused n p → analysed_of (Refused n p) map plan ≡ analyse words map plan
+pub turned_back : (words map plan : List ℕ) (r : Refusal) → refused (number_of r.reason) r.place ≡ read words → analysed_of (Err r) map plan ≡ analyse words map plan
 unfolding ◌then◌ if_given answer_of
-turned_back words map plan n p e = rw e
+turned_back words map plan r e = rw (sym e)
 
 -- ---- an accepted set
 module _ (words map plan : List ℕ) (s : Set) (is_read : read words ≡ given s) where
   -- 13
-  pub map_short : (grid : ℕ) → grid ≡ size (lengths_of s) → length map < grid → analysed_of (Refused 13 grid) map plan ≡ analyse words map plan
-  unfolding ◌then◌ if_given map_fits answer_of
+  pub map_short : (grid : ℕ) → grid ≡ size (lengths_of s) → length map < grid
+      → analysed_of (Err (record { reason = MapTooShort; place = grid })) map plan ≡ analyse words map plan
+  unfolding ◌then◌ if_given map_fits answer_of number_of
   map_short grid e h = let k : length map < size (lengths_of s) = omega arith in rw (is_read, e, lt-ltb _ _ k)
 
-  module _ (room : size (lengths_of s) ≤ length map) {made : List ℕ} (is_made : made ≡ over (map_of s) map) {q : List ℕ} {r : Placed}
+  module _ (room : size (lengths_of s) ≤ length map) {made : List ℕ} (is_made : made ≡ over (map_of s) map) {q : List ℕ} {r : Option ℕ}
       (wrote : Wrote plan 0 (plan_words (plan_of s)) r q) where
     -- accepted
-    pub planned-both : (count : ℕ) → r ≡ Next count → (said : Outcome) → answer_of said ≡ given (planned s count) → analysed_of said made q ≡ analyse words map plan
-    unfolding ◌then◌ if_given map_fits plan_fits
+    pub planned-both : (count : ℕ) → r ≡ Some count → (said : Planned) → planned_of said ≡ planned s count → analysed_of (Ok said) made q ≡ analyse words map plan
+    unfolding ◌then◌ if_given map_fits plan_fits answer_of
     planned-both count e said is_said =
         let f = read_next (rw e at wrote) in
         let z : 0 + length (plan_words (plan_of s)) ≡ length (plan_words (plan_of s)) = omega arith in
         rw (is_said, is_read, is_made, f.words, f.next, z, le-ltb _ _ room, le-ltb (length plan) (length (plan_words (plan_of s))) (omega (arith, f.fit)))
 
     -- 14
-    pub plan_short : r ≡ Full → (zeros : List ℕ) → zeros ≡ replicate (length q) 0 → length q ≡ length plan
-        → analysed_of (Refused 14 (length zeros)) made zeros ≡ analyse words map plan
-    unfolding ◌then◌ if_given map_fits plan_fits answer_of
+    pub plan_short : r ≡ None → (zeros : List ℕ) → zeros ≡ replicate (length q) 0 → length q ≡ length plan
+        → analysed_of (Err (record { reason = PlanTooShort; place = length zeros })) made zeros ≡ analyse words map plan
+    unfolding ◌then◌ if_given map_fits plan_fits answer_of number_of
     plan_short e zeros cleared same =
         let over-long = read-full (rw e at wrote) in
         let count : length zeros ≡ length plan = ap length cleared ∙ length-replicate {A = ℕ} (length q) 0 ∙ same in

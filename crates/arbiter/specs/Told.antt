@@ -7,10 +7,31 @@ use Rattle.model.specs.Broker.{Served}
 use Rattle.model.specs.Route.{Routed}
 use Rattle.model.specs.Clean.{Cleaned}
 use Rattle.model.specs.Told.{Told, AnalysisTold, TrialTold, tell_analysis, tell_route, tell_cleaned}
-use Rattle.trial.specs.Says.{tally_of}
+use Rattle.model.specs.Trial as trial
+use Rattle.trial.specs.declared.tallies.Tally.{Tally}
 use Rattle.arbiter.specs.declared.answers.Answer.{Answer}
 use Rattle.arbiter.specs.declared.answers.Analysis.{Analysis}
 use Rattle.arbiter.specs.declared.answers.Trial.{Trial}
+use Rattle.arbiter.specs.declared.answers.Kind.{Kind}
+use Rattle.arbiter.specs.declared.answers.Kind.TheVariants as kind
+
+-- the number of each kind
+abbrev pub kind_number : Kind → ℕ
+kind_number kind.Refused = 0
+kind_number kind.Accepted = 1
+kind_number kind.Planned = 2
+kind_number kind.Routed = 3
+kind_number kind.Granted = 4
+kind_number kind.Finished = 5
+kind_number kind.Busy = 6
+kind_number kind.Held = 7
+kind_number kind.Restarted = 8
+kind_number kind.InForbiddenBox = 9
+kind_number kind.InUnsafeBox = 10
+kind_number kind.InNoBox = 11
+kind_number kind.Cleaned = 12
+kind_number kind.ShareSpent = 13
+kind_number kind.Tried = 14
 
 -- the struct of three numbers
 abbrev pub struct_of : Told → Answer
@@ -19,6 +40,10 @@ struct_of t = record { kind = t.kind; refusal = t.refusal; value = t.value }
 -- the struct of an analysis: that one, and the quotient and the remainder behind it
 abbrev pub analysis_of : AnalysisTold → Analysis
 analysis_of t = record { answer = struct_of t.answer; quotient = t.quotient; remainder = t.remainder }
+
+-- a row of a trial
+abbrev pub tally_of : trial.Tally → Tally
+tally_of k = record { granted = k.granted; busy = k.busy; held = k.held; share_spent = k.share-spent }
 
 -- the struct of a trial: the answer, the rows and the bids answered Finished
 abbrev pub trial_struct : TrialTold → Trial

@@ -17,8 +17,9 @@ ghost use Rattle.model.specs.Told.{VERSION, tell_reading, tell_bid, tell_again, 
 ghost use Rattle.records.specs.Says.{record_of};
 ghost use Rattle.arbiter.specs.Told.{struct_of, trial_struct, ToldAnalysis, ToldServed, ToldRoute, ToldCleaned};
 
-pub use answers::{Analysis, Answer, Trial};
+pub use answers::{Analysis, Answer, Kind, Trial};
 use broker::Settings;
+use reader::Rules;
 use records::Record;
 
 // The state that a plan is asked about: eight positions, those past the task count unread.
@@ -39,14 +40,14 @@ pub fn arbiter_version() -> u32
 pub fn arbiter_read(set: &[u32]) -> Answer
     ensures { result ≡ struct_of (tell_reading (read set.now)) }
 {
-    answers::of_reading(reader::read(set, reader::PRESENT))
+    answers::of_reading(reader::read(set, Rules::Present))
 }
 
 // The analysis of a set into a map and a plan.
 pub fn arbiter_analyse(set: &[u32], map: &mut [u8], plan: &mut [u32]) -> Analysis
     ensures { ToldAnalysis result map.new plan.new (analyse set.now map.old plan.old) }
 {
-    answers::of_outcome(analysis::analyse(set, map, plan))
+    answers::of_planned(analysis::analyse(set, map, plan))
 }
 
 // The record that a service starts with.
@@ -68,10 +69,7 @@ pub fn arbiter_bid(
     ensures { ToldServed tell_bid result (record_of rec.new)
         (bid set.now map.now (record { share = share; window = window }) (record_of rec.old) task) }
 {
-    let settings = Settings {
-        share: share,
-        window: window,
-    };
+    let settings = Settings { share, window };
     answers::of_bid(broker::bid_in_place(rec, set, map, task, settings))
 }
 
@@ -86,7 +84,7 @@ pub fn arbiter_again(rec: &mut Record, set: &[u32]) -> Answer
 pub fn arbiter_route(rec: Record, set: &[u32], map: &[u8], steps: &mut [u8]) -> Answer
     ensures { ToldRoute result steps.new (route set.now map.now (record_of rec) steps.old) }
 {
-    answers::of_route(route::route(set, map, rec, steps))
+    answers::of_count(Kind::Routed, route::route(set, map, rec, steps))
 }
 
 // Where a state lies in a stored plan of so many tasks, without its set.
@@ -94,14 +92,14 @@ pub fn arbiter_locate(state: State, plan: &[u32], tasks: usize) -> Answer
     ensures { result ≡ struct_of (tell_location (locate state.positions plan.now tasks)) }
 {
     let positions = state.positions;
-    answers::of_located(plan_reader::locate(positions, plan, tasks))
+    answers::of_location(plan_reader::locate(positions, plan, tasks))
 }
 
 // A set without the devices that no task claims, read by the former rules.
 pub fn arbiter_clean(set: &[u32], clean: &mut [u32]) -> Answer
     ensures { ToldCleaned result clean.new (model-clean.clean set.now clean.old) }
 {
-    answers::of_cleaned(cleaner::clean(set, clean))
+    answers::of_count(Kind::Cleaned, cleaner::clean(set, clean))
 }
 
 // A trial of the settings share and window: the order bids so many rounds on a fresh record, or until every task is finished. Nothing that is lent changes.
@@ -116,9 +114,6 @@ pub fn arbiter_trial(
     ensures { result ≡ trial_struct (tell_trial
         (model-trial.trial set.now map.now order.now rounds (record { share = share; window = window }))) }
 {
-    let settings = Settings {
-        share: share,
-        window: window,
-    };
+    let settings = Settings { share, window };
     answers::of_trial(trial::trial(set, map, order, rounds, settings))
 }

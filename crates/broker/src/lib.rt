@@ -2,6 +2,7 @@
 #![tactic(auto)]
 
 mod agains;
+mod answers;
 mod bids;
 mod by_map;
 mod shares;
@@ -11,8 +12,10 @@ ghost use Rattle.model.specs.Broker as model;
 ghost use Rattle.records.specs.Says.{record_of};
 ghost use Rattle.broker.specs.Says.{settings_of, served_bid_of, served_again_of};
 
+pub use answers::{Bid, Served};
 pub use bids::answer_at;
 use records::Record;
+use refusals::Refusal;
 pub use shares::allowed;
 
 // What a bid brings: each task's share of a window's grants, and how many grants a window has.
@@ -22,68 +25,29 @@ pub struct Settings {
     pub window: u32,
 }
 
-#[derive(Clone, Copy)]
-pub enum BidAnswer {
-    Granted,
-    Finished,
-    ShareSpent,
-    // The device that the next action names.
-    Busy { device: u32 },
-    // The next state's rank.
-    Held { rank: usize },
-    // The refusal's number and place.
-    Refused { number: u8, place: usize },
-}
-
-#[derive(Clone, Copy)]
-pub enum AgainAnswer {
-    Restarted,
-    // The refusal's number and place.
-    Refused { number: u8, place: usize },
-}
-
-// The answer of a bid beside the record that it leaves.
-#[derive(Clone, Copy)]
-pub struct ServedBid {
-    pub answer: BidAnswer,
-    pub after: Record,
-}
-
-// The answer of an again beside the record that it leaves.
-#[derive(Clone, Copy)]
-pub struct ServedAgain {
-    pub answer: AgainAnswer,
-    pub after: Record,
-}
-
 // A bid of a task: the set's words and its map are lent with it. A grant moves the task by one action and is counted; nothing else changes the record.
-pub fn bid(words: &[u32], map: &[u8], rec: Record, task: usize, settings: Settings) -> ServedBid
+pub fn bid(words: &[u32], map: &[u8], rec: Record, task: usize, settings: Settings) -> Served<Bid>
     ensures { served_bid_of result ≡ model.bid words.now map.now (settings_of settings) (record_of rec) task }
 {
     let answer = bids::answer(words, map, rec, task, settings);
-    let after = match answer {
-        BidAnswer::Granted => rec.granted(task, settings.window),
-        _ => rec,
+    let after = if answer == Ok(Bid::Granted) {
+        rec.granted(task, settings.window)
+    } else {
+        rec
     };
-    ServedBid {
-        answer: answer,
-        after: after,
-    }
+    Served { answer, after }
 }
 
 // Again: at the end every task starts anew, the grant number stays, and the counts are cleared. A refused one changes nothing.
-pub fn again(words: &[u32], rec: Record) -> ServedAgain
+pub fn again(words: &[u32], rec: Record) -> Served<()>
     ensures { served_again_of result ≡ model.again words.now (record_of rec) }
 {
     let answer = agains::answer(words, rec);
     let after = match answer {
-        AgainAnswer::Restarted => rec.restarted(),
-        _ => rec,
+        Ok(()) => rec.restarted(),
+        Err(_) => rec,
     };
-    ServedAgain {
-        answer: answer,
-        after: after,
-    }
+    Served { answer, after }
 }
 
 // The record lent by its host: the bid on its value, stored back whole.
@@ -93,7 +57,7 @@ pub fn bid_in_place(
     map: &[u8],
     task: usize,
     settings: Settings,
-) -> BidAnswer
+) -> Result<Bid, Refusal>
     ensures { served_bid_of (record { answer = result; after = rec.new })
         ≡ model.bid words.now map.now (settings_of settings) (record_of rec.old) task }
 {
@@ -103,7 +67,7 @@ pub fn bid_in_place(
 }
 
 // Again over the lent record, likewise.
-pub fn again_in_place(rec: &mut Record, words: &[u32]) -> AgainAnswer
+pub fn again_in_place(rec: &mut Record, words: &[u32]) -> Result<(), Refusal>
     ensures { served_again_of (record { answer = result; after = rec.new })
         ≡ model.again words.now (record_of rec.old) }
 {

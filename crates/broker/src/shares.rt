@@ -1,18 +1,18 @@
 // Fair shares: which settings a bid may bring, and when a task that would be granted has spent its share.
-ghost use Rattle.std.specs.Prelude.{◌≡◌, not, ◌&&◌, List, ℕ, ◌<◌, ◌≤◌, eqb, ltb};
+ghost use Rattle.std.specs.Prelude.{◌≡◌, not, ◌&&◌, ℕ, ◌<◌, ◌≤◌, eqb, ltb};
 ghost use Rattle.std.proofs.Math.ListN as lib;
-ghost use Rattle.model.specs.Set.{Set, at};
-ghost use Rattle.model.specs.Read.{set_in};
+ghost use Rattle.model.specs.Set.{at};
 ghost use Rattle.model.specs.Record.{state_in};
 ghost use Rattle.model.specs.Broker.{is_setting, share_left, other_goes, shared_answer};
-ghost use Rattle.shape.specs.Declares.{Declares};
+ghost use Rattle.shape.specs.SetOf.{set_of};
 ghost use Rattle.records.specs.Says.{record_of};
 ghost use Rattle.records.specs.Ranked.{Ranked};
 ghost use Rattle.broker.specs.Says.{settings_of, bid_of};
 
-use crate::{BidAnswer, Settings, by_map};
+use crate::{Bid, Settings, by_map};
 use records::Record;
-use shape::Shape;
+use refusals::Refusal;
+use shape::AcceptedSet;
 
 // Whether a setting is 1 to 255.
 fn is_setting(n: u32) -> bool
@@ -39,24 +39,21 @@ fn goes(map: &[u8], count: u8, share: u32, position: u8, length: u8, next: usize
     if length <= position {
         return false;
     }
-    map[next] == Record::OPEN
+    map[next] == model::OPEN
 }
 
 // Whether some task with share left would be granted in the record's state. It is asked for a task that has none left, which is therefore not found and need not be
 // passed over.
-fn other_goes(shape: Shape, map: &[u8], rec: Record, rank: usize, settings: Settings) -> bool
-    requires { (words : List ℕ) × (s : Set) × Declares words shape s × Ranked s map.now (record_of rec) rank }
-    ensures { (words : List ℕ) (s : Set) → Declares words shape s → Ranked s map.now (record_of rec) rank
-        → (task : ℕ) → settings.share ≤ at rec.counts task
-        → result ≡ other_goes s map.now (settings_of settings) (record_of rec) (state_in s (record_of rec)) task }
+fn other_goes(set: &AcceptedSet, map: &[u8], rec: Record, rank: usize, settings: Settings) -> bool
+    requires { Ranked (set_of set.now) map.now (record_of rec) rank }
+    ensures { (task : ℕ) → settings.share ≤ at rec.counts task
+        → result ≡ other_goes (set_of set.now) map.now (settings_of settings) (record_of rec) (state_in (set_of set.now) (record_of rec)) task }
 {
-    let tasks = shape.tasks;
-    let lengths = shape.lengths;
-    let weights = shape.weights;
+    let lengths = set.shape.lengths;
+    let weights = set.shape.weights;
     let positions = rec.positions;
     let counts = rec.counts;
-    let mut t = 0;
-    while t < tasks {
+    for t in 0..set.shape.tasks {
         if goes(
             map,
             counts[t],
@@ -67,54 +64,46 @@ fn other_goes(shape: Shape, map: &[u8], rec: Record, rank: usize, settings: Sett
         ) {
             return true;
         }
-        t += 1;
     }
     false
 }
 
 // Whether a task has had its share or more, and another with share left would be granted.
 fn spent(
-    words: &[u32],
-    shape: Shape,
+    set: &AcceptedSet,
     map: &[u8],
     rec: Record,
     rank: usize,
     task: usize,
     settings: Settings,
 ) -> bool
-    requires { Declares words.now shape (set_in words.now) × Ranked (set_in words.now) map.now (record_of rec) rank × (task < 8) }
+    requires { Ranked (set_of set.now) map.now (record_of rec) rank × (task < 8) }
     ensures { result ≡ (not (share_left (settings_of settings) (record_of rec) task)
-        && other_goes (set_in words.now) map.now (settings_of settings) (record_of rec) (state_in (set_in words.now) (record_of rec)) task) }
+        && other_goes (set_of set.now) map.now (settings_of settings) (record_of rec) (state_in (set_of set.now) (record_of rec)) task) }
 {
     let count = rec.counts[task];
     if (count as u32) < settings.share {
         return false;
     }
-    other_goes(shape, map, rec, rank, settings)
+    other_goes(set, map, rec, rank, settings)
 }
 
 // The answer in the record's state: Share spent in place of Granted to a task whose share is spent.
 pub(crate) fn answer(
-    words: &[u32],
-    shape: Shape,
+    set: &AcceptedSet,
     map: &[u8],
     rec: Record,
     rank: usize,
     task: usize,
     settings: Settings,
-) -> BidAnswer
-    requires { Declares words.now shape (set_in words.now) × Ranked (set_in words.now) map.now (record_of rec) rank }
-    ensures { bid_of result ≡ shared_answer (set_in words.now) map.now (settings_of settings) (record_of rec)
-        (state_in (set_in words.now) (record_of rec)) task }
+) -> Result<Bid, Refusal>
+    requires { Ranked (set_of set.now) map.now (record_of rec) rank }
+    ensures { bid_of result ≡ shared_answer (set_of set.now) map.now (settings_of settings) (record_of rec)
+        (state_in (set_of set.now) (record_of rec)) task }
 {
-    let answer = by_map::map_answer(words, shape, map, rec, rank, task);
-    match answer {
-        BidAnswer::Granted => {
-            if spent(words, shape, map, rec, rank, task, settings) {
-                return BidAnswer::ShareSpent;
-            }
-            answer
-        }
-        _ => answer,
+    let answer = by_map::map_answer(set, map, rec, rank, task)?;
+    if answer == Bid::Granted && spent(set, map, rec, rank, task, settings) {
+        return Ok(Bid::ShareSpent);
     }
+    Ok(answer)
 }

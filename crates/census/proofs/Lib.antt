@@ -1,2 +1,2 @@
--- Counting: counts of the numbers that pass a test.
+-- Counting: counts of the bytes that pass a test.
 pub mod Counting

@@ -1,15 +1,14 @@
 -- What the code's answer says in the terms of SCOPE.md, "Cleaner".
-use Rattle.std.specs.Prelude.{ℕ, List}
-use Rattle.model.specs.Answer.{Answer, given, refused}
+use Rattle.std.specs.Prelude.{ℕ, List, Result}
+use Rattle.model.specs.Answer.{Answer}
 use Rattle.model.specs.Clean as model
-use Rattle.cleaner.specs.declared.CleanAnswer.{CleanAnswer}
-use Rattle.cleaner.specs.declared.CleanAnswer.TheVariants.{Cleaned, Refused}
+use Rattle.refusals.specs.declared.Refusal.{Refusal}
+use Rattle.refusals.specs.Answers.{answer_of}
 
--- each case, with the number of words written, and a refusal's number and place
-unfoldable pub answer_of : CleanAnswer → Answer ℕ
-answer_of (Cleaned words) = given words
-answer_of (Refused number place) = refused number place
+-- the number of words written
+abbrev pub count_of : Result ℕ Refusal → Answer ℕ
+count_of = answer_of (λ words. words)
 
 -- the answer beside the slice afterwards
-abbrev pub cleaned_of : CleanAnswer → List ℕ → model.Cleaned
-cleaned_of r slice = record { answer = answer_of r; slice = slice }
+abbrev pub cleaned_of : Result ℕ Refusal → List ℕ → model.Cleaned
+cleaned_of r slice = record { answer = count_of r; slice = slice }

@@ -7,14 +7,9 @@ ghost use Rattle.model.specs.Clean as model;
 ghost use Rattle.cleaner.specs.Says.{cleaned_of};
 ghost use Rattle.cleaner.specs.Numbers.{Numbers, NumbersAre, clean_words, Accepted};
 
-use reader::Verdict;
+use reader::Rules;
+use refusals::{Reason, Refusal};
 use shape::Shape;
-
-#[derive(Clone, Copy)]
-pub enum CleanAnswer {
-    Cleaned { words: usize },
-    Refused { number: u8, place: usize },
-}
 
 // The new number of each device, and how many are kept.
 #[derive(Clone, Copy)]
@@ -30,14 +25,12 @@ fn number_devices(devices: usize, claimed: &[bool; model::MAX_DEVICES]) -> Numbe
 {
     let mut numbers = [0u8; model::MAX_DEVICES];
     let mut count: u8 = 0;
-    let mut d = 0;
-    while d < devices {
+    for d in 0..devices {
         numbers[d] = count;
         count += claimed[d] as u8;
-        d += 1;
     }
     Numbering {
-        numbers: numbers,
+        numbers,
         count: count as usize,
     }
 }
@@ -57,9 +50,8 @@ fn write_set(
     ensures slice_after { slice.new ≡ over (clean_words words.now) slice.old }
 {
     let devices = shape.devices;
-    let capacities = shape.capacities;
     let end = words.len() - 1;
-    let tasks = set_writer::write_devices(devices, &capacities, &claimed, slice, 0);
+    let tasks = set_writer::write_devices(devices, &shape.capacities, &claimed, slice, 0);
     let last = set_writer::write_tasks(&words[devices..end], &numbers, slice, tasks);
     set_writer::write_end(slice, last)
 }
@@ -70,37 +62,22 @@ fn clean_set(
     shape: Shape,
     claimed: [bool; model::MAX_DEVICES],
     slice: &mut [u32],
-) -> CleanAnswer
+) -> Result<usize, Refusal>
     requires { Accepted words.now shape claimed }
     ensures { cleaned_of result slice.new ≡ model.clean words.now slice.old }
 {
     let numbered = number_devices(shape.devices, &claimed);
-    let numbers = numbered.numbers;
     let needed = words.len() - (shape.devices - numbered.count);
     if slice.len() < needed {
-        return CleanAnswer::Refused {
-            number: model::CLEAN_TOO_SHORT,
-            place: needed,
-        };
+        return Err(Reason::CleanTooShort.at(needed));
     }
-    CleanAnswer::Cleaned {
-        words: write_set(words, shape, claimed, numbers, slice),
-    }
+    Ok(write_set(words, shape, claimed, numbered.numbers, slice))
 }
 
 // Cleans the set that the words declare by the former rules, into a lent slice.
-pub fn clean(words: &[u32], slice: &mut [u32]) -> CleanAnswer
+pub fn clean(words: &[u32], slice: &mut [u32]) -> Result<usize, Refusal>
     ensures { cleaned_of result slice.new ≡ model.clean words.now slice.old }
 {
-    let reading = reader::read(words, reader::FORMER);
-    let verdict = reading.verdict;
-    let shape = reading.shape;
-    let claimed = reading.claimed;
-    match verdict {
-        Verdict::Refused { number, place } => CleanAnswer::Refused {
-            number: number,
-            place: place,
-        },
-        Verdict::Accepted => clean_set(words, shape, claimed, slice),
-    }
+    let reading = reader::read(words, Rules::Former)?;
+    clean_set(words, reading.shape, reading.claimed, slice)
 }

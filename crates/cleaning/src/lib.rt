@@ -8,14 +8,11 @@ ghost use Rattle.model.specs.Read.{read_by};
 ghost use Rattle.model.specs.Printed.{shown};
 ghost use Rattle.model.specs.CleanFile.{to_write, output_of, cleaned_in};
 
-use cleaner::CleanAnswer;
-use listing::Decoded;
-
 // A slice with room for 4,096 words, more than any cleaned set has.
 pub const FILE: usize = listing::MAX_BYTES;
 
 // What is written for a file's bytes, at the start of `file`; the answer is how many bytes it has. A shorter slice is left as it is, and the answer is 0, which no
-// file's length is.
+// file's length is: the definition `cleaned_in` says this 0, so it is no Option.
 pub fn clean_file(bytes: &[u8], file: &mut [u8]) -> usize
     ensures file_after { record { count = result; slice = file.new } ≡ cleaned_in bytes.now file.old }
     ensures upper_bound { result ≤ 16384 }
@@ -25,8 +22,8 @@ pub fn clean_file(bytes: &[u8], file: &mut [u8]) -> usize
     }
     let mut words = [0u32; model::MAX_WORDS];
     match listing::decode(bytes, &mut words) {
-        Decoded::Words(count) => clean_words(&words[..count], file),
-        Decoded::Refused { number, place } => listing::put_refusal(number, place, file),
+        Ok(count) => clean_words(&words[..count], file),
+        Err(refusal) => listing::put_refusal(refusal, file),
     }
 }
 
@@ -38,8 +35,7 @@ fn clean_words(words: &[u32], file: &mut [u8]) -> usize
 {
     let mut clean = [0u32; model::MAX_WORDS];
     match cleaner::clean(words, &mut clean) {
-        CleanAnswer::Cleaned { words: count } => listing::fill_bytes(&clean[..count], file)
-            * listing::WORD_BYTES,
-        CleanAnswer::Refused { number, place } => listing::put_refusal(number, place, file),
+        Ok(count) => listing::fill_bytes(&clean[..count], file) * listing::WORD_BYTES,
+        Err(refusal) => listing::put_refusal(refusal, file),
     }
 }

@@ -1,8 +1,9 @@
 // A case: its slices, the analysis, and the calls on what that left.
-use crate::calls::play_calls;
-use crate::input::{CALL_WORDS, Header, read_header, read_words};
-use crate::{sets, text};
-use listing::least;
+use crate::calls::CALL_WORDS;
+use crate::input::{read_header, read_word, read_words};
+use crate::plays::{first, make_calls};
+use crate::sets::analyse_set;
+use std::io::Result;
 
 // The limits of a case, as tests/make_corpus.py has them.
 const MAX_SET: usize = 4097;
@@ -20,52 +21,39 @@ const MAX_LIST: usize = MAX_CALLS * CALL_WORDS;
 
 const BYTES: usize = MAX_SET * listing::WORD_BYTES;
 
-pub fn play_all(cases: u32) {
-    let mut k = 0;
-    while k < cases {
-        play_case(k);
-        k += 1;
+pub fn play_all(rt: HostRuntime) -> Result<()> {
+    let cases = read_word(&mut rt.stdin());
+    for number in 0..cases {
+        play_case(rt, number)?;
     }
+    Ok(())
 }
 
-fn play_case(number: u32) {
+fn play_case(rt: HostRuntime, number: u32) -> Result<()> {
     let mut bytes = [0u8; BYTES];
     let mut set = [0u32; MAX_SET];
     let mut list = [0u32; MAX_LIST];
     let mut map = [0u8; MAX_MAP];
     let mut plan = [0u32; MAX_PLAN];
     let mut order = [0u8; MAX_ORDER];
-    text::case(number);
-    let head = read_header();
-    read_words(head.set_words, &mut bytes, &mut set);
-    read_words(head.call_words, &mut bytes, &mut list);
-    play_slices(head, &mut set, &list, &mut map, &mut plan, &mut order);
-}
-
-// What the header gives of each slice: the words of the calls, and the slices that are lent.
-fn play_slices(
-    head: Header,
-    set: &mut [u32],
-    list: &[u32],
-    map: &mut [u8],
-    plan: &mut [u32],
-    order: &mut [u8],
-) {
-    let own_list = least(head.call_words, list.len());
-    let own_map = least(head.map_length, map.len());
-    let own_plan = least(head.plan_length, plan.len());
-    sets::analyse(
-        set,
-        head.set_words,
-        &mut map[..own_map],
-        &mut plan[..own_plan],
-    );
-    play_calls(
-        set,
+    print!(rt; "case {number}: ")?;
+    let mut input = rt.stdin();
+    let head = read_header(&mut input);
+    read_words(&mut input, head.set_words, &mut bytes, &mut set);
+    read_words(&mut input, head.call_words, &mut bytes, &mut list);
+    let own_list = head.call_words.min(MAX_LIST);
+    let own_map = head.map_length.min(MAX_MAP);
+    let own_plan = head.plan_length.min(MAX_PLAN);
+    let map = &mut map[..own_map];
+    let plan = &mut plan[..own_plan];
+    analyse_set(&rt, first(&set, head.set_words), map, plan)?;
+    make_calls(
+        &rt,
+        &mut set,
         head.set_words,
         &list[..own_list],
-        &mut map[..own_map],
-        &mut plan[..own_plan],
-        order,
-    );
+        map,
+        plan,
+        &mut order,
+    )
 }

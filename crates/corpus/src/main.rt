@@ -5,6 +5,7 @@ mod calls;
 mod cases;
 mod input;
 mod lent;
+mod plays;
 mod questions;
 mod rounds;
 mod sets;
@@ -12,6 +13,7 @@ mod sums;
 mod text;
 mod trials;
 
-fn main() {
-    cases::play_all(input::read_word());
+// Where a line can't be written the program ends without a word.
+fn main(rt: HostRuntime) {
+    let _ = cases::play_all(rt);
 }

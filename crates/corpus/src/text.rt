@@ -1,7 +1,7 @@
-// What is printed of cases, records and slices.
+// Records and slices as they are printed.
 use crate::sums::{bytes_sum, words_sum};
-use listing::least;
 use records::Record;
+use std::fmt;
 
 // What a slice of bytes is filled with before a call.
 pub const FILL: u8 = 0xAA;
@@ -14,137 +14,101 @@ const WORDS_SHOWN: usize = 32;
 // The most bytes of a slice that a line shows.
 pub const ROW: usize = 512;
 
-// Bytes below this, a map's and the tasks of steps, are printed as a digit.
-const DIGITS: u8 = 8;
+// The record after a call: the eight positions, the grant number, and the eight counts unless all are 0.
+#[derive(Clone, Copy)]
+pub struct After(pub Record);
 
-pub fn case(k: u32) {
-    console::named(b"case ", k as usize);
-    console::text(b": ");
-}
-
-// The end of a line: the eight positions, the grant number, and the eight counts unless all are 0.
-pub fn record(rec: Record) {
-    let positions = rec.positions;
-    let counts = rec.counts;
-    eight(positions);
-    console::named(b" ", rec.grants as usize);
-    if 0 < rec.used() {
-        eight(counts);
-    }
-    console::text(b"\n");
-}
-
-fn eight(numbers: [u8; model::MAX_TASKS]) {
-    console::named(b" [", numbers[0] as usize);
-    one_more(numbers[1]);
-    one_more(numbers[2]);
-    one_more(numbers[3]);
-    one_more(numbers[4]);
-    one_more(numbers[5]);
-    one_more(numbers[6]);
-    one_more(numbers[7]);
-    console::text(b"]");
-}
-
-fn one_more(b: u8) {
-    console::named(b" ", b as usize);
-}
-
-// The map's line.
-pub fn map(map: &[u8]) {
-    console::text(b"map:");
-    if MAP_SHOWN < map.len() {
-        checksum(b"~", bytes_sum(map));
-        return;
-    }
-    row(map);
-}
-
-// The route slice's characters, and the end of its line.
-pub fn steps(steps: &[u8]) {
-    console::text(b":");
-    row(steps);
-}
-
-// The line of a sweep: the checksum of the indices, and a character for each state, or a checksum of these too.
-pub fn sweep(sum: u32, row: &[u8]) {
-    console::text(b"swept");
-    hex(sum);
-    if ROW < row.len() {
-        checksum(b":~", bytes_sum(row));
-        return;
-    }
-    steps(row);
-}
-
-// A character for each byte of a map or a route slice, and the end of the line.
-fn row(slice: &[u8]) {
-    let mut line = [0u8; ROW];
-    characters(slice, &mut line);
-    let n = least(slice.len(), ROW);
-    console::text(&line[..n]);
-    console::text(b"\n");
-}
-
-fn characters(slice: &[u8], line: &mut [u8]) {
-    let n = least(slice.len(), line.len());
-    let mut i = 0;
-    while i < n {
-        line[i] = character(slice[i]);
-        i += 1;
+impl fmt::Display for After {
+    fn fmt<W: fmt::Write>(&self, f: &mut fmt::Formatter<W>) -> fmt::Result {
+        let Record {
+            positions,
+            grants,
+            counts,
+        } = self.0;
+        write!(f, "{} {grants}", Eight(positions))?;
+        if counts == [0; model::MAX_TASKS] {
+            return Ok(());
+        }
+        write!(f, "{}", Eight(counts))
     }
 }
 
-fn character(b: u8) -> u8 {
-    if b < DIGITS {
-        b'0' + b
-    } else if b == FILL {
-        b'.'
-    } else if b == route::NO_STEP {
-        b'x'
-    } else {
-        b'?'
+// Eight numbers in brackets.
+#[derive(Clone, Copy)]
+struct Eight([u8; model::MAX_TASKS]);
+
+impl fmt::Display for Eight {
+    fn fmt<W: fmt::Write>(&self, f: &mut fmt::Formatter<W>) -> fmt::Result {
+        let mut before = " [";
+        for number in self.0 {
+            write!(f, "{before}{number}")?;
+            before = " ";
+        }
+        f.write_str("]")
     }
 }
 
-// The plan's line.
-pub fn plan(plan: &[u32]) {
-    console::text(b"plan:");
-    words(plan);
-}
+// A map, or its checksum.
+#[derive(Clone, Copy)]
+pub struct Map<'a>(pub &'a [u8]);
 
-// The words of a cleaned set's slice, and the end of its line.
-pub fn cleaned(slice: &[u32]) {
-    console::text(b":");
-    words(slice);
-}
-
-// The words of a slice and the end of the line.
-fn words(slice: &[u32]) {
-    if WORDS_SHOWN < slice.len() {
-        checksum(b" ~", words_sum(slice));
-        return;
-    }
-    hex_words(slice);
-    console::text(b"\n");
-}
-
-fn hex_words(slice: &[u32]) {
-    let mut i = 0;
-    while i < slice.len() {
-        hex(slice[i]);
-        i += 1;
+impl fmt::Display for Map<'_> {
+    fn fmt<W: fmt::Write>(&self, f: &mut fmt::Formatter<W>) -> fmt::Result {
+        if MAP_SHOWN < self.0.len() {
+            return write!(f, "~{:08X}", bytes_sum(self.0));
+        }
+        write!(f, "{}", Steps(self.0))
     }
 }
 
-fn hex(word: u32) {
-    let line = listing::hex_line(word);
-    console::text(b" ");
-    console::text(&line[..listing::DIGITS]);
+// What a sweep found at each state, or the checksum.
+#[derive(Clone, Copy)]
+pub struct Marks<'a>(pub &'a [u8]);
+
+impl fmt::Display for Marks<'_> {
+    fn fmt<W: fmt::Write>(&self, f: &mut fmt::Formatter<W>) -> fmt::Result {
+        if ROW < self.0.len() {
+            return write!(f, "~{:08X}", bytes_sum(self.0));
+        }
+        write!(f, "{}", Steps(self.0))
+    }
 }
 
-fn checksum(mark: &[u8], sum: u32) {
-    let line = listing::hex_line(sum);
-    console::text(mark);
-    console::text(&line);
+// A character for each byte of a map, a route slice or a sweep.
+#[derive(Clone, Copy)]
+pub struct Steps<'a>(pub &'a [u8]);
+
+impl fmt::Display for Steps<'_> {
+    fn fmt<W: fmt::Write>(&self, f: &mut fmt::Formatter<W>) -> fmt::Result {
+        for byte in self.0 {
+            f.write_char(character(*byte))?;
+        }
+        Ok(())
+    }
+}
+
+// A map's bytes and the tasks of steps are digits.
+fn character(byte: u8) -> char {
+    match byte {
+        0..=7 => char::from(b'0' + byte),
+        FILL => '.',
+        route::NO_STEP => 'x',
+        _ => '?',
+    }
+}
+
+// The words of a plan or of a cleaned set's slice, or their checksum.
+#[derive(Clone, Copy)]
+pub struct Words<'a>(pub &'a [u32]);
+
+impl fmt::Display for Words<'_> {
+    fn fmt<W: fmt::Write>(&self, f: &mut fmt::Formatter<W>) -> fmt::Result {
+        if WORDS_SHOWN < self.0.len() {
+            return write!(f, " ~{:08X}", words_sum(self.0));
+        }
+        for word in self.0 {
+            write!(f, " {word:08X}")?;
+        }
+        Ok(())
+    }
 }

@@ -1,12 +1,8 @@
 // The calls on example a's set: bids, a whole service, routes, and records and maps that no service leaves.
-use crate::lines::{UNTOUCHED, again_line, bid_line, largest, route_line, say_record};
+use crate::lines::{Left, UNTOUCHED, again_line, bid_line, bid_lines, largest, route_line};
 use crate::sets::GRID_OF_A;
 use records::Record;
-
-// The largest numbers: of a task, and of a grant.
-const LARGEST_TASK: usize = 0xFFFF_FFFF_FFFF_FFFF;
-
-const LARGEST_GRANT: u32 = 0xFFFF_FFFF;
+use std::io::Result;
 
 // The set has so many actions; a route slice needs a byte for each.
 pub const ACTIONS: usize = 8;
@@ -20,99 +16,92 @@ pub const NO_BYTE: u8 = 4;
 pub fn at_state(p: u8, q: u8) -> Record {
     Record {
         positions: [p, q, 0, 0, 0, 0, 0, 0],
-        grants: 0,
-        counts: [0; model::MAX_TASKS],
+        ..Record::fresh()
     }
 }
 
+pub fn on_a(rt: &impl Print, words: &[u32], map: &[u8]) -> Result<()> {
+    bids(rt, words, map)?;
+    last_number(rt, words, map)?;
+    service(rt, words, map)?;
+    routes(rt, words, map)?;
+    spoilt_records(rt, words, map)?;
+    spoilt_maps(rt, words)
+}
+
 // Example b, and bids of tasks that do not exist.
-pub fn bids(words: &[u32], map: &[u8]) {
-    let first = bid_line(words, map, Record::fresh(), 0);
-    let second = bid_line(words, map, first, 1);
-    let third = bid_line(words, map, second, 0);
-    let fourth = bid_line(words, map, third, 1);
-    let fifth = bid_line(words, map, fourth, 0);
-    let sixth = bid_line(words, map, fifth, 1);
-    bid_line(words, map, sixth, 2);
-    bid_line(words, map, sixth, model::MAX_TASKS);
-    bid_line(words, map, sixth, LARGEST_TASK);
+fn bids(rt: &impl Print, words: &[u32], map: &[u8]) -> Result<()> {
+    let after = bid_lines(rt, words, map, Record::fresh(), &[0, 1, 0, 1, 0, 1])?;
+    for task in [2, model::MAX_TASKS, usize::MAX] {
+        bid_line(rt, words, map, after, task)?;
+    }
+    Ok(())
 }
 
 // Example l: the grant number after the largest.
-pub fn last_number(words: &[u32], map: &[u8]) {
+fn last_number(rt: &impl Print, words: &[u32], map: &[u8]) -> Result<()> {
     let rec = Record {
-        positions: [0; model::MAX_TASKS],
-        grants: LARGEST_GRANT,
-        counts: [0; model::MAX_TASKS],
+        grants: u32::MAX,
+        ..Record::fresh()
     };
-    bid_line(words, map, rec, 0);
-}
-
-// The record after a round of two bids, the later task's first.
-fn round(words: &[u32], map: &[u8], rec: Record) -> Record {
-    let first = broker::bid(words, map, rec, 1, largest());
-    let second = broker::bid(words, map, first.after, 0, largest());
-    second.after
-}
-
-fn four_rounds(words: &[u32], map: &[u8], rec: Record) -> Record {
-    let first = round(words, map, rec);
-    let second = round(words, map, first);
-    let third = round(words, map, second);
-    round(words, map, third)
-}
-
-// As many rounds as the set has actions.
-fn serve(words: &[u32], map: &[u8], rec: Record) -> Record {
-    let half = four_rounds(words, map, rec);
-    let end = four_rounds(words, map, half);
-    console::text(b"eight rounds");
-    say_record(end);
-    end
+    bid_line(rt, words, map, rec, 0)?;
+    Ok(())
 }
 
 // A full service, again, and a second one; an again before the end is refused.
-pub fn service(words: &[u32], map: &[u8]) {
-    let end = serve(words, map, Record::fresh());
-    bid_line(words, map, end, 0);
-    let anew = again_line(words, end);
-    let start = again_line(words, anew);
-    serve(words, map, start);
+fn service(rt: &impl Print, words: &[u32], map: &[u8]) -> Result<()> {
+    let end = serve(rt, words, map, Record::fresh())?;
+    bid_line(rt, words, map, end, 0)?;
+    let anew = again_line(rt, words, end)?;
+    let start = again_line(rt, words, anew)?;
+    serve(rt, words, map, start)?;
+    Ok(())
+}
+
+// As many rounds of two bids as the set has actions, the later task's bid first.
+fn serve(rt: &impl Print, words: &[u32], map: &[u8], rec: Record) -> Result<Record> {
+    let mut now = rec;
+    for _ in 0..ACTIONS {
+        now = broker::bid(words, map, now, 1, largest()).after;
+        now = broker::bid(words, map, now, 0, largest()).after;
+    }
+    println!(rt; "eight rounds{}", Left(now))?;
+    Ok(now)
 }
 
 // Example c; from the dead state, from a forbidden one, and into a slice that is too short.
-pub fn routes(words: &[u32], map: &[u8]) {
+fn routes(rt: &impl Print, words: &[u32], map: &[u8]) -> Result<()> {
     let mut slice = [UNTOUCHED; ACTIONS];
-    route_line(words, map, at_state(0, 1), &mut slice);
-    route_line(words, map, at_state(1, 1), &mut slice);
-    route_line(words, map, at_state(1, 2), &mut slice);
-    let mut short = [UNTOUCHED; TOO_FEW];
-    route_line(words, map, at_state(0, 0), &mut short);
+    for (p, q) in [(0, 1), (1, 1), (1, 2)] {
+        route_line(rt, words, map, at_state(p, q), &mut slice)?;
+    }
+    route_line(rt, words, map, at_state(0, 0), &mut [UNTOUCHED; TOO_FEW])
 }
 
 // Positions past a task's end or of an absent task, and a map slice that is too short.
-pub fn spoilt_records(words: &[u32], map: &[u8]) {
-    bid_line(words, map, at_state(5, 0), 0);
+fn spoilt_records(rt: &impl Print, words: &[u32], map: &[u8]) -> Result<()> {
+    bid_line(rt, words, map, at_state(5, 0), 0)?;
     let absent = Record {
         positions: [0, 0, 1, 0, 0, 0, 0, 0],
-        grants: 0,
-        counts: [0; model::MAX_TASKS],
+        ..Record::fresh()
     };
-    bid_line(words, map, absent, 0);
-    bid_line(words, &[0, 0, 0], Record::fresh(), 0);
+    bid_line(rt, words, map, absent, 0)?;
+    bid_line(rt, words, &[0, 0, 0], Record::fresh(), 0)?;
+    Ok(())
 }
 
 // Bytes that no analysis of the set leaves: at the start, and at the start's next states, of ranks 1 and 5.
-pub fn spoilt_maps(words: &[u32]) {
+fn spoilt_maps(rt: &impl Print, words: &[u32]) -> Result<()> {
+    let start = Record::fresh();
     let mut slice = [UNTOUCHED; ACTIONS];
     let mut map = [model::OPEN; GRID_OF_A];
     map[0] = model::UNSAFE;
-    bid_line(words, &map, Record::fresh(), 0);
+    bid_line(rt, words, &map, start, 0)?;
     map[0] = NO_BYTE;
-    route_line(words, &map, Record::fresh(), &mut slice);
+    route_line(rt, words, &map, start, &mut slice)?;
     map[0] = model::OPEN;
     map[1] = model::FORBIDDEN;
     map[5] = NO_BYTE;
-    bid_line(words, &map, Record::fresh(), 0);
-    route_line(words, &map, Record::fresh(), &mut slice);
+    bid_line(rt, words, &map, start, 0)?;
+    route_line(rt, words, &map, start, &mut slice)
 }

@@ -1,5 +1,6 @@
 // The longest tasks: two of 254 actions pass, and with a third of 2 the grid is too large.
 use crate::lines::{UNTOUCHED, analyse_line, read_line};
+use std::io::Result;
 
 // A task's actions, and its words: the task's own before them.
 const ACTIONS: usize = 254;
@@ -23,9 +24,8 @@ const ONE_LESS: usize = GRID_OF_TWO - 1;
 // The word of a task at this place: its own, then claims and releases of device 0 in turn.
 fn long_word(place: usize) -> u32 {
     if place == 0 {
-        return 0x2000_0000;
-    }
-    if place % 2 == 1 {
+        0x2000_0000
+    } else if place % 2 == 1 {
         0x3000_0000
     } else {
         0x4000_0000
@@ -34,37 +34,40 @@ fn long_word(place: usize) -> u32 {
 
 // Long tasks from index 1 on, as far as the words go.
 fn fill_long(words: &mut [u32]) {
-    let mut i = 0;
-    while i < words.len() {
-        words[i] = long_word((i + ACTIONS) % TASK_WORDS);
-        i += 1;
+    for (i, word) in words.iter_mut().skip(1).enumerate() {
+        *word = long_word(i % TASK_WORDS);
     }
 }
 
 // Two tasks pass; no small plan slice holds their forbidden boxes if they exclude each other.
-pub fn two_long() {
+pub fn two_long(rt: &impl Print) -> Result<()> {
     let mut words = [0u32; WORDS_OF_TWO];
     fill_long(&mut words);
     words[0] = 0x1000_0002;
     words[END_OF_TWO] = 0x5000_01FF;
-    read_line(b"two tasks of 254", &words);
-    let mut short = [UNTOUCHED; ONE_LESS];
-    analyse_line(
-        b"two tasks of 254, a map slice of 65024",
-        &words,
-        &mut short,
-    );
+    read_line(rt, "two tasks of 254", &words)?;
     let mut map = [UNTOUCHED; GRID_OF_TWO];
-    analyse_line(b"two tasks of 254, a map slice of 65025", &words, &mut map);
+    analyse_line(
+        rt,
+        "two tasks of 254, a map slice of 65024",
+        &words,
+        &mut map[..ONE_LESS],
+    )?;
+    analyse_line(
+        rt,
+        "two tasks of 254, a map slice of 65025",
+        &words,
+        &mut map,
+    )?;
     words[0] = 0x1000_0001;
-    analyse_line(b"two tasks of 254, capacity 1", &words, &mut map);
+    analyse_line(rt, "two tasks of 254, capacity 1", &words, &mut map)
 }
 
 // A third of 2 is 12.
-pub fn three_long() {
+pub fn three_long(rt: &impl Print) -> Result<()> {
     let mut words = [0u32; WORDS_OF_THREE];
     fill_long(&mut words);
     words[0] = 0x1000_0002;
     words[END_OF_THREE] = 0x5000_0202;
-    read_line(b"and a third of 2", &words);
+    read_line(rt, "and a third of 2", &words)
 }

@@ -11,31 +11,33 @@ mod stored;
 mod trials;
 mod units;
 
-fn main() {
+use std::io::Result;
+
+// Where a line can't be written the program ends without a word.
+fn main(rt: HostRuntime) {
+    let _ = make_all(&rt);
+}
+
+fn make_all(rt: &impl Print) -> Result<()> {
     let words = sets::A;
     let mut map = [lines::UNTOUCHED; sets::GRID_OF_A];
-    lines::analyse_line(b"a", &words, &mut map);
-    calls::bids(&words, &map);
-    calls::last_number(&words, &map);
-    calls::service(&words, &map);
-    calls::routes(&words, &map);
-    calls::spoilt_records(&words, &map);
-    calls::spoilt_maps(&words);
-    shares::on_a(&words, &map);
-    trials::on_a(&words, &map);
-    sets::mapped_sets();
-    sets::longer_slice();
-    sets::small_sets();
-    stored::refused();
-    stored::cleaned();
-    stored::others();
-    units::patch();
-    units::crossed();
-    units::refused();
-    units::cleaned();
-    questions::on_a();
-    questions::on_d();
-    questions::on_others();
-    long::two_long();
-    long::three_long();
+    lines::analyse_line(rt, "a", &words, &mut map)?;
+    calls::on_a(rt, &words, &map)?;
+    shares::on_a(rt, &words, &map)?;
+    trials::on_a(rt, &words, &map)?;
+    sets::mapped_sets(rt)?;
+    sets::longer_slice(rt)?;
+    sets::small_sets(rt)?;
+    stored::refused(rt)?;
+    stored::cleaned(rt)?;
+    stored::others(rt)?;
+    units::patch(rt)?;
+    units::crossed(rt)?;
+    units::refused(rt)?;
+    units::cleaned(rt)?;
+    questions::on_a(rt)?;
+    questions::on_d(rt)?;
+    questions::on_others(rt)?;
+    long::two_long(rt)?;
+    long::three_long(rt)
 }

@@ -1,8 +1,9 @@
 // Questions to the stored plans of examples a, d, e, f and g, at every state.
 use crate::lines::UNTOUCHED;
 use crate::sets;
-use console::UNREAD;
-use plan_reader::Located;
+use console::{Said, UNREAD, state_at};
+use plan_reader::Location;
+use std::io::Result;
 
 // The words of the plans, END among them.
 const PLAN_OF_A: usize = 11;
@@ -36,115 +37,93 @@ fn at_two(p: u8, q: u8) -> [u8; model::MAX_TASKS] {
     [p, q, UNREAD, UNREAD, UNREAD, UNREAD, UNREAD, UNREAD]
 }
 
-fn question_line(label: &[u8], state: [u8; model::MAX_TASKS], plan: &[u32], tasks: usize) {
-    console::text(label);
-    console::text(b": ");
-    console::located(plan_reader::locate(state, plan, tasks));
-    console::text(b"\n");
+fn question_line(
+    rt: &impl Print,
+    label: &str,
+    state: [u8; model::MAX_TASKS],
+    plan: &[u32],
+    tasks: usize,
+) -> Result<()> {
+    println!(rt;
+        "{label}: {}",
+        Said(plan_reader::locate(state, plan, tasks))
+    )
 }
 
-// The states up to these positions, so many of them.
+// The states of so many tasks up to these positions, so many of them: `-` in no box, else `f` or `u` for the kind of the box, and its index.
 fn states_line(
-    label: &[u8],
+    rt: &impl Print,
+    label: &str,
     plan: &[u32],
     tasks: usize,
     last: [u8; model::MAX_TASKS],
     states: usize,
-) {
-    console::text(label);
-    console::text(b" at every state:");
-    say_spots(plan, tasks, last, states);
-    console::text(b"\n");
-}
-
-fn say_spots(plan: &[u32], tasks: usize, last: [u8; model::MAX_TASKS], states: usize) {
-    let mut rank = 0;
-    while rank < states {
-        say_spot(plan_reader::locate(console::state_at(last, tasks, rank), plan, tasks));
-        rank += 1;
-    }
-}
-
-// `-` in no box, else `f` or `u` for the kind of the box, and its index.
-fn say_spot(said: Located) {
-    match said {
-        Located::Forbidden { index } => console::named(b" f", index),
-        Located::Unsafe { index } => console::named(b" u", index),
-        Located::Neither => console::text(b" -"),
-        Located::Refused { number, place } => {
-            console::text(b" ");
-            console::refusal(number, place);
+) -> Result<()> {
+    print!(rt; "{label} at every state:")?;
+    for rank in 0..states {
+        match plan_reader::locate(state_at(last, tasks, rank), plan, tasks) {
+            Ok(Location::Forbidden { index }) => print!(rt; " f{index}")?,
+            Ok(Location::Unsafe { index }) => print!(rt; " u{index}")?,
+            Ok(Location::Neither) => rt.print(" -")?,
+            Err(refusal) => print!(rt; " {refusal}")?,
         }
     }
+    rt.print("\n")
 }
 
 // The plan of a at every state and at some by name, for wrong task counts, cut short and with a word more.
-pub fn on_a() {
-    let words = sets::A;
+pub fn on_a(rt: &impl Print) -> Result<()> {
     let mut map = [UNTOUCHED; sets::GRID_OF_A];
     let mut plan = [0u32; PLAN_OF_A];
-    analysis::analyse(&words, &mut map, &mut plan);
-    states_line(b"plan of a", &plan, 2, LAST_OF_A, sets::GRID_OF_A);
-    states_of_a(&plan);
-    tasks_of_a(&plan);
-    cut_line(b"plan of a without END", &plan, NO_END);
-    cut_line(b"plan of a, 8 words", &plan, 8);
-    cut_line(b"plan of a, no words", &plan, 0);
+    let _ = analysis::analyse(&sets::A, &mut map, &mut plan);
+    states_line(rt, "plan of a", &plan, 2, LAST_OF_A, sets::GRID_OF_A)?;
+    states_of_a(rt, &plan)?;
+    tasks_of_a(rt, &plan)?;
+    let state = at_two(1, 1);
+    question_line(rt, "plan of a without END", state, &plan[..NO_END], 2)?;
+    question_line(rt, "plan of a, 8 words", state, &plan[..8], 2)?;
+    question_line(rt, "plan of a, no words", state, &[], 2)?;
     let mut longer = [0u32; ONE_MORE];
-    analysis::analyse(&words, &mut map, &mut longer);
+    let _ = analysis::analyse(&sets::A, &mut map, &mut longer);
     longer[PLAN_OF_A] = 0x5000_000B;
-    question_line(b"plan of a and END again", at_two(1, 1), &longer, 2);
+    question_line(rt, "plan of a and END again", state, &longer, 2)
 }
 
-// The first words of a plan.
-fn cut_line(label: &[u8], plan: &[u32], count: usize) {
-    let n = listing::least(count, plan.len());
-    question_line(label, at_two(1, 1), &plan[..n], 2);
+fn states_of_a(rt: &impl Print, plan: &[u32]) -> Result<()> {
+    for (p, q) in [(2, 2), (2, 1), (1, 1), (1, 0), (255, 255)] {
+        let said = plan_reader::locate(at_two(p, q), plan, 2);
+        println!(rt; "plan of a at {p} {q}: {}", Said(said))?;
+    }
+    Ok(())
 }
 
-fn states_of_a(plan: &[u32]) {
-    question_line(b"plan of a at 2 2", at_two(2, 2), plan, 2);
-    question_line(b"plan of a at 2 1", at_two(2, 1), plan, 2);
-    question_line(b"plan of a at 1 1", at_two(1, 1), plan, 2);
-    question_line(b"plan of a at 1 0", at_two(1, 0), plan, 2);
-    question_line(b"plan of a at 255 255", at_two(255, 255), plan, 2);
-}
-
-fn tasks_of_a(plan: &[u32]) {
-    question_line(b"plan of a for three tasks", at_two(1, 1), plan, 3);
-    question_line(b"plan of a for one task", at_two(1, 1), plan, 1);
-    question_line(b"plan of a for no task", at_two(1, 1), plan, 0);
-    question_line(b"plan of a for nine tasks", at_two(1, 1), plan, NINE);
-    question_line(
-        b"plan of a for 4294967298 tasks",
-        at_two(1, 1),
-        plan,
-        BEYOND,
-    );
-    question_line(b"no words for nine tasks", at_two(1, 1), &[], NINE);
+fn tasks_of_a(rt: &impl Print, plan: &[u32]) -> Result<()> {
+    let state = at_two(1, 1);
+    question_line(rt, "plan of a for three tasks", state, plan, 3)?;
+    question_line(rt, "plan of a for one task", state, plan, 1)?;
+    question_line(rt, "plan of a for no task", state, plan, 0)?;
+    question_line(rt, "plan of a for nine tasks", state, plan, NINE)?;
+    question_line(rt, "plan of a for 4294967298 tasks", state, plan, BEYOND)?;
+    question_line(rt, "no words for nine tasks", state, &[], NINE)
 }
 
 // The plan of d, where unsafe boxes hold forbidden states.
-pub fn on_d() {
-    let words = sets::D;
+pub fn on_d(rt: &impl Print) -> Result<()> {
     let mut map = [UNTOUCHED; sets::GRID_OF_D];
     let mut plan = [0u32; PLAN_OF_D];
-    analysis::analyse(&words, &mut map, &mut plan);
-    states_line(b"plan of d", &plan, 2, LAST_OF_D, sets::GRID_OF_D);
+    let _ = analysis::analyse(&sets::D, &mut map, &mut plan);
+    states_line(rt, "plan of d", &plan, 2, LAST_OF_D, sets::GRID_OF_D)
 }
 
 // The plan of e, in which all three tasks may not hold the device, and those of f and g, which are END alone.
-pub fn on_others() {
-    let words = sets::E;
+pub fn on_others(rt: &impl Print) -> Result<()> {
     let mut map = [UNTOUCHED; sets::GRID_OF_E];
     let mut plan = [0u32; PLAN_OF_E];
-    analysis::analyse(&words, &mut map, &mut plan);
-    states_line(b"plan of e", &plan, 3, LAST_OF_E, sets::GRID_OF_E);
+    let _ = analysis::analyse(&sets::E, &mut map, &mut plan);
+    states_line(rt, "plan of e", &plan, 3, LAST_OF_E, sets::GRID_OF_E)?;
     let mut end = [0u32; 1];
-    let f = sets::F;
-    analysis::analyse(&f, &mut map, &mut end);
-    states_line(b"plan of f", &end, 1, LAST_OF_F, 1);
-    let g = sets::G;
-    analysis::analyse(&g, &mut map, &mut end);
-    states_line(b"plan of g", &end, 1, LAST_OF_G, sets::GRID_OF_G);
+    let _ = analysis::analyse(&sets::F, &mut map, &mut end);
+    states_line(rt, "plan of f", &end, 1, LAST_OF_F, 1)?;
+    let _ = analysis::analyse(&sets::G, &mut map, &mut end);
+    states_line(rt, "plan of g", &end, 1, LAST_OF_G, sets::GRID_OF_G)
 }

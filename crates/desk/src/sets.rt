@@ -1,5 +1,6 @@
 // The sets of examples a and d to k, word by word as SCOPE.md, "Desk examples", has them, and the analyses of those that no call is made on.
 use crate::lines::{UNTOUCHED, analyse_line, map_line};
+use std::io::Result;
 
 pub const A: [u32; 13] = [
     0x1000_0001,
@@ -78,40 +79,34 @@ pub const WORDS_OF_OLD_G: usize = 3;
 pub const OLD_G: [u32; WORDS_OF_OLD_G] = [0x1000_0008, 0x2000_0000, 0x5000_0002];
 
 // Examples d and e.
-pub fn mapped_sets() {
-    let d = D;
-    let mut map_of_d = [UNTOUCHED; GRID_OF_D];
-    map_line(b"d", &d, &mut map_of_d);
-    let e = E;
-    let mut map_of_e = [UNTOUCHED; GRID_OF_E];
-    map_line(b"e", &e, &mut map_of_e);
+pub fn mapped_sets(rt: &impl Print) -> Result<()> {
+    map_line(rt, "d", &D, &mut [UNTOUCHED; GRID_OF_D])?;
+    map_line(rt, "e", &E, &mut [UNTOUCHED; GRID_OF_E])
 }
 
 // Example a in a map slice as long as d's, full of dead states before: what stands behind the grid is left, and isn't counted.
-pub fn longer_slice() {
-    let a = A;
-    let mut map = [model::DEAD; GRID_OF_D];
-    map_line(b"a in a slice of 49", &a, &mut map);
+pub fn longer_slice(rt: &impl Print) -> Result<()> {
+    map_line(rt, "a in a slice of 49", &A, &mut [model::DEAD; GRID_OF_D])
 }
 
 // Examples f to k.
-pub fn small_sets() {
+pub fn small_sets(rt: &impl Print) -> Result<()> {
     let mut map = [UNTOUCHED; GRID_OF_G];
-    let f = F;
-    analyse_line(b"f", &f, &mut map);
-    let g = G;
-    analyse_line(b"g", &g, &mut map);
-    analyse_line(b"g, capacity 9", &[0x1000_0009], &mut map);
-    analyse_line(b"h", &[0x3000_0000], &mut map);
-    analyse_line(b"i", &[0x2000_0000], &mut map);
+    analyse_line(rt, "f", &F, &mut map)?;
+    analyse_line(rt, "g", &G, &mut map)?;
+    analyse_line(rt, "g, capacity 9", &[0x1000_0009], &mut map)?;
+    analyse_line(rt, "h", &[0x3000_0000], &mut map)?;
+    analyse_line(rt, "i", &[0x2000_0000], &mut map)?;
     analyse_line(
-        b"j",
+        rt,
+        "j",
         &[0x1000_0001, 0x2000_0000, 0x3000_0000, 0x3000_0000],
         &mut map,
-    );
+    )?;
     analyse_line(
-        b"k",
+        rt,
+        "k",
         &[0x1000_0001, 0x2000_0000, 0x3000_0000, 0x5000_0003],
         &mut map,
-    );
+    )
 }

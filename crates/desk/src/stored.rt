@@ -1,8 +1,10 @@
 // Example g as sets like it were stored before a device that no task claims was refused: what every call says of it, and what the cleaner makes of it.
 use crate::lines::{UNTOUCHED, again_line, analyse_line, bid_line, route_line};
 use crate::sets;
-use cleaner::CleanAnswer;
+use console::Counted;
 use records::Record;
+use std::fmt;
+use std::io::Result;
 
 // What a slice of words holds before a cleaning; no word of a set.
 pub const BLANK: u32 = 9;
@@ -13,64 +15,57 @@ const CLEANED: usize = 2;
 const TOO_FEW: usize = CLEANED - 1;
 
 // Refused by every call that reads it.
-pub fn refused() {
+pub fn refused(rt: &impl Print) -> Result<()> {
     let words = sets::OLD_G;
+    let start = Record::fresh();
     let mut map = [UNTOUCHED; 1];
-    analyse_line(b"g as it was", &words, &mut map);
-    bid_line(&words, &map, Record::fresh(), 0);
-    again_line(&words, Record::fresh());
-    let mut steps = [UNTOUCHED; 2];
-    route_line(&words, &map, Record::fresh(), &mut steps);
+    analyse_line(rt, "g as it was", &words, &mut map)?;
+    bid_line(rt, &words, &map, start, 0)?;
+    again_line(rt, &words, start)?;
+    route_line(rt, &words, &map, start, &mut [UNTOUCHED; 2])
 }
 
 // Through the cleaner, with a slice that is too short, longer and exact; and then accepted.
-pub fn cleaned() {
+pub fn cleaned(rt: &impl Print) -> Result<()> {
     let words = sets::OLD_G;
-    let mut short = [BLANK; TOO_FEW];
-    clean_line(b"g as it was", &words, &mut short);
-    let mut longer = [BLANK; sets::WORDS_OF_OLD_G];
-    clean_line(b"g as it was", &words, &mut longer);
+    clean_line(rt, "g as it was", &words, &mut [BLANK; TOO_FEW])?;
+    clean_line(
+        rt,
+        "g as it was",
+        &words,
+        &mut [BLANK; sets::WORDS_OF_OLD_G],
+    )?;
     let mut exact = [BLANK; CLEANED];
-    clean_line(b"g as it was", &words, &mut exact);
-    let mut map = [UNTOUCHED; 1];
-    analyse_line(b"g as it was, cleaned", &exact, &mut map);
+    clean_line(rt, "g as it was", &words, &mut exact)?;
+    analyse_line(rt, "g as it was, cleaned", &exact, &mut [UNTOUCHED; 1])
 }
 
 // Clean sets come back as they are, and words that were refused before are refused as before.
-pub fn others() {
-    let mut slice = [BLANK; sets::WORDS_OF_G];
-    let g = sets::G;
-    clean_line(b"g", &g, &mut slice);
-    let f = sets::F;
-    let mut exact = [BLANK; CLEANED];
-    clean_line(b"f", &f, &mut exact);
-    let mut untouched = [BLANK; CLEANED];
-    clean_line(b"i", &[0x2000_0000], &mut untouched);
+pub fn others(rt: &impl Print) -> Result<()> {
+    clean_line(rt, "g", &sets::G, &mut [BLANK; sets::WORDS_OF_G])?;
+    clean_line(rt, "f", &sets::F, &mut [BLANK; CLEANED])?;
+    clean_line(rt, "i", &[0x2000_0000], &mut [BLANK; CLEANED])
 }
 
 // A cleaning, and its slice afterwards.
-pub fn clean_line(label: &[u8], words: &[u32], slice: &mut [u32]) {
-    console::text(label);
-    console::text(b" through the cleaner: ");
-    match cleaner::clean(words, slice) {
-        CleanAnswer::Cleaned { words: count } => console::named(b"cleaned ", count),
-        CleanAnswer::Refused { number, place } => console::refusal(number, place),
-    }
-    console::text(b", slice");
-    say_words(slice);
-    console::text(b"\n");
+pub fn clean_line(rt: &impl Print, label: &str, words: &[u32], slice: &mut [u32]) -> Result<()> {
+    let count = cleaner::clean(words, slice);
+    println!(rt;
+        "{label} through the cleaner: {}, slice{}",
+        Counted("cleaned", count),
+        Words(slice)
+    )
 }
 
-fn say_words(words: &[u32]) {
-    let mut i = 0;
-    while i < words.len() {
-        say_word(words[i]);
-        i += 1;
-    }
-}
+// The words of a slice.
+#[derive(Clone, Copy)]
+struct Words<'a>(&'a [u32]);
 
-fn say_word(word: u32) {
-    let line = listing::hex_line(word);
-    console::text(b" ");
-    console::text(&line[..listing::DIGITS]);
+impl fmt::Display for Words<'_> {
+    fn fmt<W: fmt::Write>(&self, f: &mut fmt::Formatter<W>) -> fmt::Result {
+        for word in self.0 {
+            write!(f, " {word:08X}")?;
+        }
+        Ok(())
+    }
 }

@@ -1,7 +1,8 @@
 // The radio patch (SCOPE.md, "Desk examples"), whose claims take several units of a gateway, and claims that take too many.
-use crate::lines::{UNTOUCHED, analyse_line, bid_line, map_line};
+use crate::lines::{UNTOUCHED, analyse_line, bid_lines, map_line};
 use crate::stored::{BLANK, clean_line};
 use records::Record;
+use std::io::Result;
 
 // A gateway of capacity 3; tasks that take 2, 2 and 1 of its channels.
 const PATCH: [u32; 11] = [
@@ -52,59 +53,57 @@ const UNCLAIMED: [u32; 6] = [
 const CLEANED: usize = 5;
 
 // The patch: its map, and that Busy names the gateway and not its units.
-pub fn patch() {
-    let words = PATCH;
+pub fn patch(rt: &impl Print) -> Result<()> {
     let mut map = [UNTOUCHED; GRID_OF_PATCH];
-    map_line(b"patch", &words, &mut map);
-    let first = bid_line(&words, &map, Record::fresh(), 0);
-    let second = bid_line(&words, &map, first, 1);
-    bid_line(&words, &map, second, 2);
+    map_line(rt, "patch", &PATCH, &mut map)?;
+    bid_lines(rt, &PATCH, &map, Record::fresh(), &[0, 1, 2])?;
+    Ok(())
 }
 
 // Units that cross: what example a is with one unit.
-pub fn crossed() {
-    let words = CROSSED;
+pub fn crossed(rt: &impl Print) -> Result<()> {
     let mut map = [UNTOUCHED; GRID_OF_CROSSED];
-    map_line(b"crossed", &words, &mut map);
-    let first = bid_line(&words, &map, Record::fresh(), 0);
-    let second = bid_line(&words, &map, first, 1);
-    let third = bid_line(&words, &map, second, 0);
-    bid_line(&words, &map, third, 1);
+    map_line(rt, "crossed", &CROSSED, &mut map)?;
+    bid_lines(rt, &CROSSED, &map, Record::fresh(), &[0, 1, 0, 1])?;
+    Ok(())
 }
 
 // Too many units, with those before them in the order of refusals; a release with units; a bit above them.
-pub fn refused() {
+pub fn refused(rt: &impl Print) -> Result<()> {
     let mut map = [UNTOUCHED; 1];
     analyse_line(
-        b"3 units of 2",
+        rt,
+        "3 units of 2",
         &[0x1000_0002, 0x2000_0000, 0x3002_0000],
         &mut map,
-    );
+    )?;
     analyse_line(
-        b"256 units of 8",
+        rt,
+        "256 units of 8",
         &[0x1000_0008, 0x2000_0000, 0x30FF_0000],
         &mut map,
-    );
+    )?;
     analyse_line(
-        b"3 units of 2, held",
+        rt,
+        "3 units of 2, held",
         &[0x1000_0002, 0x2000_0000, 0x3000_0000, 0x3002_0000],
         &mut map,
-    );
+    )?;
     analyse_line(
-        b"release of 2 units",
+        rt,
+        "release of 2 units",
         &[0x1000_0002, 0x2000_0000, 0x3001_0000, 0x4001_0000],
         &mut map,
-    );
+    )?;
     analyse_line(
-        b"bit 24",
+        rt,
+        "bit 24",
         &[0x1000_0002, 0x2000_0000, 0x3100_0000],
         &mut map,
-    );
+    )
 }
 
 // The cleaner keeps the units.
-pub fn cleaned() {
-    let words = UNCLAIMED;
-    let mut slice = [BLANK; CLEANED];
-    clean_line(b"3 units of device 1", &words, &mut slice);
+pub fn cleaned(rt: &impl Print) -> Result<()> {
+    clean_line(rt, "3 units of device 1", &UNCLAIMED, &mut [BLANK; CLEANED])
 }

@@ -9,3 +9,4 @@ pub mod Boxes
 pub mod Claims
 pub mod Device
 pub mod Walked
+pub mod Between

@@ -3,17 +3,16 @@ use Prim.Native.Nat.{ℕ, ◌+◌, ◌*◌, ◌<◌, ◌≤◌}
 use native.Mathlib.Numerals.{add-one}
 use native.Mathlib.Nat.{eq-or-lt_of_le, le_of_suc-le-suc}
 use native.Mathlib.Omega.{arith}
-use mathlib.Core.Path.{◌≡◌, refl, sym, ap, ◌∙◌}
+use mathlib.Core.Path.{◌≡◌, sym, ap, ◌∙◌}
 use mathlib.Core.List.{List}
-use lib.ListN.{length, set, replicate, length-set}
+use lib.ListN.{length, set, length-set}
 use lib.Seq.{get_or-set_same, get_or-set_other}
 use lib.Dec.{eqb}
 use borrow.Author.Tests.{eqb-true, eqb-false}
 use Rattle.model.specs.Set.{Task, Set, task_at, at}
 use Rattle.model.specs.Plan.{side_word}
 use Rattle.model.proofs.Bools.{by_bool, by_cases}
-use Rattle.forbidden_boxes.specs.Rows.{ROW, WHOLE, ROWS, task_in, RowsBefore, HoldSides, Row, RowMade, RowsMade}
-use Rattle.model.proofs.Lists.{at-zeros}
+use Rattle.forbidden_boxes.specs.Rows.{ROW, WHOLE, task_in, RowsBefore, HoldSides, Row, RowMade, RowsMade}
 use Rattle.forbidden_boxes.proofs.Gather.{task-length}
 
 -- the word over all positions, put at the row's end
@@ -59,13 +58,6 @@ row_kept {d} {u} {t} h k m r =
 
 -- the rows of the tasks before t
 module _ (s : Set) (d : ℕ) where
-  pub none_made : (rows units : List ℕ) → length rows ≡ ROWS → length units ≡ ROWS → RowsMade s 0 d (replicate 8 0) rows units
-  none_made rows units h k =
-      record {
-        sized = record { eight_rows = h; eight_units = k; eight_holds = refl; few = λ t. rw (at-zeros 8 t) (omega arith) };
-        row = λ t l. absurd (omega arith);
-      }
-
   pub one-made : {words rows units holds rows' units' : List ℕ} {start n t count : ℕ} → RowsMade s t d holds rows units → t < 8 → length rows' ≡ length rows
       → length units' ≡ length units → task_in words start n ≡ task_at s t → RowMade words start n d t rows units count rows' units'
       → RowsMade s (t + 1) d (set holds t count) rows' units'

@@ -82,27 +82,27 @@ all-needed s n least (h ∷ c) =
     ∙ swapped (each_needed s n c) (eqb h.units 0 || leb (n - h.units) s) (leb n (s + least))
 
 -- what a last hold of u units must have, where the others exceed the capacity already, and where they don't
-pub none-missing : (s sum least u : ℕ) → s < sum → (ltb 0 u && leb u 0) ≡ just_over s (sum + u) (min least u)
+pub none-missing : (s sum least u : ℕ) → s < sum → (leb 0 u && ltb u 0) ≡ just_over s (sum + u) (min least u)
 unfolding just_over
 none-missing s sum least u h =
-    both_ways (ltb 0 u && leb u 0) (ltb s (sum + u) && leb (sum + u) (s + min least u))
-    (λ k. let q = and-true (ltb 0 u) (leb u 0) k in absurd (omega (arith, ltb-true 0 u q.0, leb-true u 0 q.1)))
+    both_ways (leb 0 u && ltb u 0) (ltb s (sum + u) && leb (sum + u) (s + min least u))
+    (λ k. absurd (omega (arith, ltb-true u 0 (and-true (leb 0 u) (ltb u 0) k).1)))
     (λ k. absurd (omega (arith, leb-true (sum + u) (s + min least u) (and-true (ltb s (sum + u)) (leb (sum + u) (s + min least u)) k).1)))
 
-pub some-missing : (s sum least u : ℕ) → sum ≤ s → (ltb (s - sum) u && leb u (s - sum + least)) ≡ just_over s (sum + u) (min least u)
+pub some-missing : (s sum least u : ℕ) → sum ≤ s → (leb (s - sum + 1) u && ltb u (s - sum + 1 + least)) ≡ just_over s (sum + u) (min least u)
 unfolding just_over
 some-missing s sum least u h =
-    both_ways (ltb (s - sum) u && leb u (s - sum + least)) (ltb s (sum + u) && leb (sum + u) (s + min least u))
+    both_ways (leb (s - sum + 1) u && ltb u (s - sum + 1 + least)) (ltb s (sum + u) && leb (sum + u) (s + min least u))
     (λ k.
-    let q = and-true (ltb (s - sum) u) (leb u (s - sum + least)) k in
-    let b = ltb-true (s - sum) u q.0 in
-    let c = leb-true u (s - sum + least) q.1 in
+    let q = and-true (leb (s - sum + 1) u) (ltb u (s - sum + 1 + least)) k in
+    let b = leb-true (s - sum + 1) u q.0 in
+    let c = ltb-true u (s - sum + 1 + least) q.1 in
     rw (lt-ltb s (sum + u) (omega arith), le-leb (sum + u) (s + min least u) (omega arith)))
     (λ k.
     let q = and-true (ltb s (sum + u)) (leb (sum + u) (s + min least u)) k in
     let b = ltb-true s (sum + u) q.0 in
     let c = leb-true (sum + u) (s + min least u) q.1 in
-    rw (lt-ltb (s - sum) u (omega arith), le-leb u (s - sum + least) (omega arith)))
+    rw (le-leb (s - sum + 1) u (omega arith), lt-ltb u (s - sum + 1 + least) (omega arith)))
 
 -- holds of a byte's units
 abbrev Bytes : Choice → Type 0

@@ -1,14 +1,13 @@
 // The boxes of one task set: each choice of one hold in each of its tasks that just exceeds the capacity.
-ghost use Rattle.std.specs.Prelude.{◌≡◌, ◌+◌, ◌*◌, ◌^◌, ◌≤◌, ◌<◌, length, take};
+ghost use Rattle.std.specs.Prelude.{◌≡◌, ◌+◌, ◌*◌, ◌^◌, ◌≤◌, ◌<◌, length, take, get_or};
 ghost use Rattle.plan_words.specs.Words.{Wrote};
-ghost use Rattle.forbidden_boxes.specs.Rows.{ROWS, WHOLE, Sized, Whole};
+ghost use Rattle.forbidden_boxes.specs.Rows.{Whole};
 ghost use Rattle.forbidden_boxes.specs.Choices.{hold_words, choice_words};
 
-use crate::rows::ROW;
+use crate::rows::{ROW, Rows};
 use crate::sides::{first_side, side_count};
-use crate::sum::{Sum, just_exceeds, missing_units, with_side};
+use crate::sum::{Sum, missing_units, with_side};
 use model::MAX_TASKS;
-use plan_words::Placed;
 
 // What a device's boxes have in common: their first word, and the capacity that each exceeds.
 #[derive(Clone, Copy)]
@@ -21,39 +20,30 @@ pub(crate) struct Limit {
 fn hold_boxes(
     plan: &mut [u32],
     at: usize,
-    rows: &[u32],
-    units: &[u8],
-    count: usize,
+    rows: &Rows,
     limit: Limit,
     left: usize,
     task: usize,
     sides: &[u32; MAX_TASKS],
     sum: Sum,
-) -> Placed
+) -> Option<usize>
     requires at_in_bounds { at ≤ length plan.old }
     requires task_bound { left + task ≤ 8 }
     requires task_bound_2 { task < 8 }
-    requires rows_len { length rows.now ≡ ROWS }
-    requires units_len { length units.now ≡ ROWS }
-    requires count_bound { count ≤ WHOLE }
-    requires sides_len { length sides.now ≡ 8 }
-    ensures { Wrote plan.old at (hold_words rows.now units.now limit.header limit.capacity (task + left) task sides.now sum.all sum.least count) result plan.new }
+    ensures { Wrote plan.old at (hold_words rows.now.sides rows.now.units limit.header limit.capacity (task + left) task sides.now sum.all sum.least (get_or rows.now.holds task 0)) result plan.new }
 {
     let tasks = task + left;
-    let rest = missing_units(sum, limit.capacity);
+    let count = rows.holds[task];
+    let missing = missing_units(sum, limit.capacity);
     let mut to = at;
-    let mut i = 0;
-    while i < count {
-        if just_exceeds(rest, units[task * ROW + i]) {
-            let side = rows[task * ROW + i];
-            match plan_words::write_box(plan, to, limit.header, sides, tasks, task, side) {
-                Placed::Next(p) => to = p,
-                Placed::Full => return Placed::Full,
-            }
+    for i in 0..count {
+        let units = rows.units[task * ROW + i] as u32;
+        if missing.contains(&units) {
+            let side = rows.sides[task * ROW + i];
+            to = plan_words::write_box(plan, to, limit.header, sides, tasks, task, side)?;
         }
-        i += 1;
     }
-    Placed::Next(to)
+    Some(to)
 }
 
 // The boxes of a task set over the tasks from `task` on, `left` of them, with the sides of the tasks before and their units: each choice of one side a task, the first task's
@@ -61,53 +51,42 @@ fn hold_boxes(
 pub(crate) fn choices(
     plan: &mut [u32],
     at: usize,
-    rows: &[u32],
-    units: &[u8],
-    holds: &[usize],
+    rows: &Rows,
     limit: Limit,
     left: usize,
     task: usize,
     mask: u32,
     sides: [u32; MAX_TASKS],
     sum: Sum,
-) -> Placed
+) -> Option<usize>
     requires at_in_bounds { at ≤ length plan.old }
     requires task_bound { left + task ≤ 8 }
-    requires sized { Sized rows.now units.now holds.now }
     requires mask_bound { mask < 2 ^ left }
     requires mask_nonzero { 0 < mask }
-    requires whole { Whole rows.now sides task left }
+    requires whole { Whole rows.now.sides sides task left }
     requires all_bound { sum.all ≤ 255 * task }
-    ensures { Wrote plan.old at (choice_words rows.now units.now holds.now limit.header limit.capacity left task mask sum.all sum.least (take task sides)) result plan.new }
+    ensures { Wrote plan.old at (choice_words rows.now.sides rows.now.units rows.now.holds limit.header limit.capacity left task mask sum.all sum.least (take task sides)) result plan.new }
 {
     if mask == 1 {
-        let count = holds[task];
-        return hold_boxes(plan, at, rows, units, count, limit, left, task, &sides, sum);
+        return hold_boxes(plan, at, rows, limit, left, task, &sides, sum);
     }
-    let count = side_count(holds, task, mask);
+    let count = side_count(rows, task, mask);
     let first = first_side(task, mask);
     let mut next = sides;
     let mut to = at;
-    let mut i = 0;
-    while i < count {
-        next[task] = rows[first + i];
-        match choices(
+    for i in 0..count {
+        next[task] = rows.sides[first + i];
+        to = choices(
             plan,
             to,
             rows,
-            units,
-            holds,
             limit,
             left - 1,
             task + 1,
             mask / 2,
             next,
-            with_side(sum, mask, units[first + i]),
-        ) {
-            Placed::Next(p) => to = p,
-            Placed::Full => return Placed::Full,
-        }
-        i += 1;
+            with_side(sum, mask, rows.units[first + i]),
+        )?;
     }
-    Placed::Next(to)
+    Some(to)
 }

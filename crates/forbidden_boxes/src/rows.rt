@@ -1,12 +1,12 @@
 // The rows of a device's side words: for each task one place a hold, and the one over all its positions; and the units of each hold, in the same places.
-ghost use Rattle.std.specs.Prelude.{◌≡◌, ◌≤◌, ◌<◌, length};
-ghost use Rattle.model.specs.Read.{set_in};
-ghost use Rattle.shape.specs.Declares.{Declares};
-ghost use Rattle.forbidden_boxes.specs.Rows.{ROWS, Acts, HoldSides, RowMade, RowsMade};
+ghost use Rattle.std.specs.Prelude.{◌≡◌, ◌≤◌, ◌<◌};
+ghost use Rattle.model.specs.Set.{at};
+ghost use Rattle.shape.specs.SetOf.{set_of};
+ghost use Rattle.forbidden_boxes.specs.Rows.{Sized, HoldSides, RowMade, RowsMade};
 ghost use Rattle.forbidden_boxes.specs.Choices.{claimers_from};
 
 use model::MAX_TASKS;
-use shape::Shape;
+use shape::AcceptedSet;
 
 // A row has room for a word a hold, which are 127 at most, since a hold takes two of at most 255 actions; the last place is for the whole task.
 pub(crate) const ROW: usize = 128;
@@ -14,111 +14,87 @@ pub(crate) const ROW: usize = 128;
 pub(crate) const WHOLE: usize = ROW - 1;
 
 // A row a task.
-pub(crate) const ROWS: usize = MAX_TASKS * ROW;
+const ROWS: usize = MAX_TASKS * ROW;
 
-// The side words and units of a task's holds of a device, put into its row; answers how many there are. The task's `len` actions are the words from
-// `start` on.
-fn hold_sides(
-    words: &[u32],
-    start: usize,
-    len: u8,
-    device: u32,
-    task: usize,
-    rows: &mut [u32],
-    units: &mut [u8],
-) -> usize
-    requires task_bound { task < 8 }
-    requires rows_len { length rows.old ≡ ROWS }
-    requires units_len { length units.old ≡ ROWS }
-    requires acts { Acts words.now start len device }
-    ensures { HoldSides words.now start len device task rows.old units.old result rows.new units.new }
+// The side words and the units, row after row, and the number of holds of each task.
+#[derive(Drop)]
+pub(crate) struct Rows {
+    pub(crate) sides: [u32; ROWS],
+    pub(crate) units: [u8; ROWS],
+    pub(crate) holds: [usize; MAX_TASKS],
+    pub(crate) ghost sized: { Sized sides units holds },
+}
+
+impl Rows {
+    // Rows of no holds, to be made for a device.
+    pub(crate) fn new() -> Self {
+        Self {
+            sides: [0; ROWS],
+            units: [0; ROWS],
+            holds: [0; MAX_TASKS],
+        }
+    }
+}
+
+// The side words and units of a task's holds of a device, put into its row; answers how many there are. The task's words are read by index: nothing says of an empty task that
+// a slice from its start lies among the words.
+fn hold_sides(set: &AcceptedSet, task: usize, device: u32, rows: &mut Rows) -> usize
+    requires { task < set.now.shape.tasks }
+    ensures listed { HoldSides set.now.words.now (at set.now.shape.starts task) (at set.now.shape.lengths task) device task rows.old.sides rows.old.units result rows.new.sides rows.new.units }
+    ensures same_holds { rows.new.holds ≡ rows.old.holds }
 {
+    let start = set.shape.starts[task];
     let mut count = 0;
     let mut low: u8 = 0;
     let mut taken: u8 = 0;
-    let mut p: u8 = 0;
-    while p < len {
-        let word = words[start + p as usize];
-        let next = p + 1;
+    for p in 0..set.shape.lengths[task] {
+        let word = set.words[start + p as usize];
         if set_words::device(word) == device {
             if set_words::is_claim(word) {
-                low = next;
+                low = p + 1;
                 taken = set_words::units(word) as u8;
             } else {
-                rows[task * ROW + count] = plan_words::side(task, low, p);
-                units[task * ROW + count] = taken;
+                rows.sides[task * ROW + count] = plan_words::side(task, low, p);
+                rows.units[task * ROW + count] = taken;
                 count += 1;
             }
         }
-        p = next;
     }
     count
 }
 
 // A task's row; answers the number of its holds.
-fn task_row(
-    words: &[u32],
-    start: usize,
-    len: u8,
-    device: u32,
-    task: usize,
-    rows: &mut [u32],
-    units: &mut [u8],
-) -> usize
-    requires task_bound { task < 8 }
-    requires rows_len { length rows.old ≡ ROWS }
-    requires units_len { length units.old ≡ ROWS }
-    requires acts { Acts words.now start len device }
-    ensures { RowMade words.now start len device task rows.old units.old result rows.new units.new }
+fn task_row(set: &AcceptedSet, task: usize, device: u32, rows: &mut Rows) -> usize
+    requires { task < set.now.shape.tasks }
+    ensures made { RowMade set.now.words.now (at set.now.shape.starts task) (at set.now.shape.lengths task) device task rows.old.sides rows.old.units result rows.new.sides rows.new.units }
+    ensures same_holds { rows.new.holds ≡ rows.old.holds }
 {
-    let count = hold_sides(words, start, len, device, task, rows, units);
-    rows[task * ROW + WHOLE] = plan_words::side(task, 0, len);
+    let count = hold_sides(set, task, device, rows);
+    rows.sides[task * ROW + WHOLE] = plan_words::side(task, 0, set.shape.lengths[task]);
     count
 }
 
-// The rows of all tasks; answers the number of holds of each.
-pub(crate) fn task_rows(
-    words: &[u32],
-    shape: Shape,
-    device: u32,
-    rows: &mut [u32],
-    units: &mut [u8],
-) -> [usize; MAX_TASKS]
-    requires declares { Declares words.now shape (set_in words.now) }
-    requires rows_len { length rows.old ≡ ROWS }
-    requires units_len { length units.old ≡ ROWS }
-    ensures { RowsMade (set_in words.now) shape.tasks device result rows.new units.new }
+// The rows of all tasks.
+pub(crate) fn task_rows(set: &AcceptedSet, device: u32, rows: &mut Rows)
+    ensures { RowsMade (set_of set.now) set.now.shape.tasks device rows.new.holds rows.new.sides rows.new.units }
 {
-    let mut holds = [0usize; MAX_TASKS];
-    let mut t = 0;
-    while t < shape.tasks {
-        holds[t] = task_row(
-            words,
-            shape.starts[t],
-            shape.lengths[t],
-            device,
-            t,
-            rows,
-            units,
-        );
-        t += 1;
+    rows.holds = [0; MAX_TASKS];
+    for t in 0..set.shape.tasks {
+        let count = task_row(set, t, device, rows);
+        rows.holds[t] = count;
     }
-    holds
 }
 
 // How many tasks hold the device at some time.
-pub(crate) fn claimers(holds: &[usize], tasks: usize) -> usize
-    requires tasks_bound { tasks ≤ 8 }
-    requires holds_len { length holds.now ≡ 8 }
-    ensures { result ≡ claimers_from 0 tasks holds.now }
+pub(crate) fn claimers(rows: &Rows, tasks: usize) -> usize
+    requires { tasks ≤ 8 }
+    ensures { result ≡ claimers_from 0 tasks rows.now.holds }
 {
     let mut found = 0;
-    let mut t = 0;
-    while t < tasks {
-        if holds[t] != 0 {
+    for t in 0..tasks {
+        if rows.holds[t] != 0 {
             found += 1;
         }
-        t += 1;
     }
     found
 }

@@ -1,32 +1,29 @@
 // The sides that a task is given in a box, out of its row.
-ghost use Rattle.std.specs.Prelude.{◌≡◌, ◌≤◌, ◌<◌, length};
-ghost use Rattle.forbidden_boxes.specs.Rows.{ROWS, Whole};
+ghost use Rattle.std.specs.Prelude.{◌≡◌, ◌≤◌, ◌<◌};
+ghost use Rattle.forbidden_boxes.specs.Rows.{Whole};
 ghost use Rattle.forbidden_boxes.specs.Choices.{side_count, first_side};
 
-use crate::rows::{ROW, WHOLE};
+use crate::rows::{ROW, Rows, WHOLE};
 use model::MAX_TASKS;
 
 // The words of all tasks over all their positions.
-pub(crate) fn whole_sides(rows: &[u32], tasks: usize) -> [u32; MAX_TASKS]
-    requires tasks_bound { tasks ≤ 8 }
-    requires rows_len { length rows.now ≡ ROWS }
-    ensures { Whole rows.now result 0 tasks }
+pub(crate) fn whole_sides(rows: &Rows, tasks: usize) -> [u32; MAX_TASKS]
+    requires { tasks ≤ 8 }
+    ensures { Whole rows.now.sides result 0 tasks }
 {
     let mut sides = [0u32; MAX_TASKS];
-    let mut t = 0;
-    while t < tasks {
-        sides[t] = rows[t * ROW + WHOLE];
-        t += 1;
+    for t in 0..tasks {
+        sides[t] = rows.sides[t * ROW + WHOLE];
     }
     sides
 }
 
 // How many sides a task is given: its holds if it is in the set, the mask's lowest bit, else the whole of it.
-pub(crate) fn side_count(holds: &[usize], task: usize, mask: u32) -> usize
-    requires { task < length holds.now }
-    ensures { result ≡ side_count holds.now task mask }
+pub(crate) fn side_count(rows: &Rows, task: usize, mask: u32) -> usize
+    requires { task < 8 }
+    ensures { result ≡ side_count rows.now.holds task mask }
 {
-    if mask % 2 == 1 { holds[task] } else { 1 }
+    if mask % 2 == 1 { rows.holds[task] } else { 1 }
 }
 
 // Where the first of them stands in the rows.

@@ -5,26 +5,32 @@ use mathlib.Core.List.{List}
 use Prim.Native.Nat.{ℕ, ◌≤◌}
 use native.Mathlib.Omega.{arith}
 use lib.ListN.{length}
-use Rattle.model.specs.Answer.{Answer, given, refused}
+use Rattle.std.specs.Prelude.{Result, Ok, Err}
+use Rattle.model.specs.Answer.{Answer, given, refused, ◌then◌}
 use Rattle.model.specs.Printed.{words_in, words_of}
+use Rattle.model.proofs.Answers.{given-refused, refused-given, refused-number, refused-place, given-value}
 use Rattle.model.proofs.FileWords.{words-given}
-use Rattle.listing.specs.declared.Decoded.TheVariants.{Words, Refused}
-use Rattle.listing.specs.Words.{decoded_of}
+use Rattle.refusals.specs.declared.Refusal.{Refusal}
+use Rattle.refusals.specs.Answers.{number_of, answer_of}
+
+-- what a decoded file answers: its words by their number
+abbrev pub Decoded : Result ℕ Refusal → Answer (List ℕ) → Type 0
+Decoded r a = answer_of (λ (n : ℕ). n) r ≡ (a then λ ws. given (length ws))
 
 -- words, so many
-as-words : (a : Answer (List ℕ)) (k : ℕ) → Words k ≡ decoded_of a → (ws : List ℕ) × (a ≡ given ws) × (k ≡ length ws)
-unfolding decoded_of
-as-words (given ws) k e = (ws, refl, cc)
-as-words (refused n p) k e = absurd (let z : ◌≡◌ {A = ℕ} 0 1 = cc in let f : ⊥ = omega arith in f)
+as-words : (a : Answer (List ℕ)) (k : ℕ) → Decoded (Ok k) a → (ws : List ℕ) × (a ≡ given ws) × (k ≡ length ws)
+unfolding answer_of ◌then◌
+as-words (given ws) k e = (ws, refl, given-value e)
+as-words (refused n p) k e = given-refused e
 
 -- a refusal, the same
-pub as-refused : (a : Answer (List ℕ)) (n p : ℕ) → Refused n p ≡ decoded_of a → a ≡ refused n p
-unfolding decoded_of
-as-refused (given ws) n p e = absurd (let z : ◌≡◌ {A = ℕ} 0 1 = cc in let f : ⊥ = omega arith in f)
-as-refused (refused m q) n p e = cc
+pub as-refused : (a : Answer (List ℕ)) (r : Refusal) → Decoded (Err r) a → a ≡ refused (number_of r.reason) r.place
+unfolding answer_of ◌then◌
+as-refused (given ws) r e = refused-given e
+as-refused (refused n p) r e = rw (refused-number e, refused-place e)
 
 -- decoded words are all that the bytes have, and at most 4,096
-pub word_count : (bs : List ℕ) (k : ℕ) → Words k ≡ decoded_of (words_of bs) → (words_of bs ≡ given (words_in bs)) × (k ≡ length (words_in bs)) × (k ≤ 4096)
+pub word_count : (bs : List ℕ) (k : ℕ) → Decoded (Ok k) (words_of bs) → (words_of bs ≡ given (words_in bs)) × (k ≡ length (words_in bs)) × (k ≤ 4096)
 word_count bs k e =
     let a = as-words (words_of bs) k e in
     let w = words-given bs a.0 a.1 in

@@ -5,14 +5,15 @@ use mathlib.Core.Path.{◌≡◌, refl, sym, ap, ap₂, ◌∙◌}
 use mathlib.Core.List.{List}
 use lib.ListN.{length, take, drop}
 use lib.Seq.{take_all, take-take, take_at}
+use Rattle.std.specs.Prelude.{Ok, Err}
 use Rattle.model.specs.Answer.{Answer, given, refused, ◌then◌, if_given}
 use Rattle.model.specs.Slice.{over}
 use Rattle.model.specs.Printed.{words_in, words_of, refusal_line, Shown, shown}
 use Rattle.model.proofs.Rows.{Rows, length-rows}
 use Rattle.model.proofs.FileShown.{by-words, by-none}
-use Rattle.listing.specs.declared.Decoded.TheVariants.{Words, Refused}
-use Rattle.listing.specs.Words.{decoded_of}
-use Rattle.listing.proofs.Callers.{as-refused, word_count}
+use Rattle.refusals.specs.declared.Refusal.{Refusal}
+use Rattle.refusals.specs.Answers.{number_of}
+use Rattle.listing.proofs.Callers.{Decoded, as-refused, word_count}
 
 -- so many bytes of a slice
 abbrev bytes_of : ℕ → List ℕ → Shown
@@ -42,7 +43,7 @@ module _ (text : Answer (List ℕ) → List ℕ) (line : (n p : ℕ) → text (r
 
   -- what a program makes of a file's words
   module _ (f : List ℕ → Answer (List ℕ)) (bs : List ℕ) where
-    pub words-shown : (room after : List ℕ) (k : ℕ) (s : Shown) → Words k ≡ decoded_of (words_of bs) → 4096 ≤ length room
+    pub words-shown : (room after : List ℕ) (k : ℕ) (s : Shown) → Decoded (Ok k) (words_of bs) → 4096 ≤ length room
         → after ≡ if_given (words_of bs) (λ ws. take (length room) (over ws room)) room → s ≡ shown (text (f (take k after))) slice
         → s ≡ shown (text (words_of bs then f)) slice
     words-shown room after k s d most a e =
@@ -50,7 +51,9 @@ module _ (text : Answer (List ℕ) → List ℕ) (line : (n p : ℕ) → text (r
         let ws = file-words bs room after k w.0 w.1 (omega (arith, w.2)) a in
         e ∙ ap (λ (l : List ℕ). shown (text (f l)) slice) ws ∙ ap (λ (t : List ℕ). shown t slice) (sym (by-words f text bs (words_in bs) w.0))
 
-    pub none-shown : (n p k : ℕ) (last : List ℕ) → Refused n p ≡ decoded_of (words_of bs) → k ≡ length (refusal_line n p) → last ≡ over (refusal_line n p) slice
-        → record { count = k; slice = last } ≡ shown (text (words_of bs then f)) slice
-    none-shown n p k last d l w =
-        line-shown (refused n p) n p k last refl l w ∙ ap (λ (t : List ℕ). shown t slice) (sym (by-none f text bs n p (as-refused (words_of bs) n p d)))
+    pub none-shown : (r : Refusal) (k : ℕ) (last : List ℕ) → Decoded (Err r) (words_of bs) → k ≡ length (refusal_line (number_of r.reason) r.place)
+        → last ≡ over (refusal_line (number_of r.reason) r.place) slice → record { count = k; slice = last } ≡ shown (text (words_of bs then f)) slice
+    none-shown r k last d l w =
+        let n = number_of r.reason in
+        line-shown (refused n r.place) n r.place k last refl l w
+        ∙ ap (λ (t : List ℕ). shown t slice) (sym (by-none f text bs n r.place (as-refused (words_of bs) r d)))

@@ -1,9 +1,10 @@
-// Words and refusals as text, put into a lent slice.
+// Words and refusals as text, put into a lent slice. The digits are made by hand: each clause says the bytes that stand there, and a `Display` promises none.
 ghost use Rattle.std.specs.Prelude.{◌≡◌, ◌++◌, ◌+◌, ◌/◌, ◌≤◌, ◌<◌, min, length, take, set};
 ghost use Rattle.model.specs.Slice.{over, write};
 ghost use Rattle.model.specs.Printed.{hex_digit, hex_line, lines_of, decimal, refusal_line};
+ghost use Rattle.refusals.specs.Answers.{number_of};
 
-use crate::least;
+use refusals::Refusal;
 
 // A word's digits.
 pub const DIGITS: usize = 8;
@@ -24,12 +25,10 @@ pub fn fill_lines(words: &[u32], out: &mut [u8]) -> usize
     ensures value { result ≡ min (length words.now) (length out.old / 9) }
     ensures out_after { out.new ≡ over (lines_of (take result words.now)) out.old }
 {
-    let count = least(words.len(), out.len() / LINE);
-    let mut k = 0;
-    while k < count {
+    let count = words.len().min(out.len() / LINE);
+    for k in 0..count {
         let line = hex_line(words[k]);
         put(&line, out, k * LINE);
-        k += 1;
     }
     count
 }
@@ -65,14 +64,15 @@ fn hex_digit(n: u32) -> u8
 }
 
 // Puts a refusal's line at the start of `out`, and answers its length. Two numbers of 64 bits have at most 20 digits each, and 13 bytes stand round them.
-pub fn put_refusal(number: u8, place: usize, out: &mut [u8]) -> usize
+pub fn put_refusal(refusal: Refusal, out: &mut [u8]) -> usize
     requires { 53 ≤ length out.old }
-    ensures value { result ≡ length (refusal_line number place) }
+    ensures value { result ≡ length (refusal_line (number_of refusal.reason) refusal.place) }
     ensures upper_bound { result ≤ 53 }
-    ensures out_after { out.new ≡ over (refusal_line number place) out.old }
+    ensures out_after { out.new ≡ over (refusal_line (number_of refusal.reason) refusal.place) out.old }
 {
+    let number = refusal.reason.number();
     let numbered = put_named(b"refused ", number as usize, out, 0);
-    let placed = put_named(b" at ", place, out, numbered);
+    let placed = put_named(b" at ", refusal.place, out, numbered);
     put(b"\n", out, placed)
 }
 
@@ -117,10 +117,7 @@ pub(crate) fn put(bytes: &[u8], out: &mut [u8], to: usize) -> usize
     ensures value { result ≡ to + length bytes.now }
     ensures out_after { out.new ≡ write out.old to bytes.now }
 {
-    let mut j = 0;
-    while j < bytes.len() {
-        out[to + j] = bytes[j];
-        j += 1;
-    }
-    to + j
+    let end = to + bytes.len();
+    out[to..end].copy_from_slice(bytes);
+    end
 }

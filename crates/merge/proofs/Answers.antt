@@ -12,16 +12,7 @@ use Rattle.model.specs.Set.{Set}
 use Rattle.model.specs.Layout.{encode}
 use Rattle.model.specs.Read.{Reading, read, set_in}
 use Rattle.model.specs.Merge.{merged, first_unequal, merge_fits, merge}
-use Rattle.reader.specs.declared.Verdict.{Verdict}
-use Rattle.reader.specs.declared.Reading.{Reading as Told}
-use Rattle.reader.specs.Answer.{answer}
-use Rattle.reader.proofs.Facts.{of_accepted}
-use Rattle.merge.specs.Sets.{Accepted}
 use Rattle.model.proofs.Bools.{by_cases, or_right}
-
--- an accepted reading
-pub accepts : (ws : List ℕ) (r : Told) → r ≡ answer (read ws) → r.verdict ≡ Verdict.Accepted → Accepted ws r.shape
-accepts ws r e v = record { accepted = of_accepted (read ws) (rw e at v); shaped = ap (λ (x : Told). x.shape) e }
 
 -- the answer of a refused merge, which leaves the slice as it was, and of one that writes
 abbrev pub turned_back : ℕ → ℕ → List ℕ → Written

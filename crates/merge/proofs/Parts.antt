@@ -14,9 +14,10 @@ use Rattle.model.specs.Below.{lowest}
 use Rattle.model.specs.Slice.{over, write}
 use Rattle.model.specs.Set.{device_of, Set, at}
 use Rattle.model.specs.Layout.{word, DEVICE, END, task_words, body, with_end, encode}
-use Rattle.model.specs.Read.{set_in}
+use Rattle.model.specs.Answer.{given}
+use Rattle.model.specs.Read.{read}
 use Rattle.model.specs.Clean.{renamed_tasks}
-use Rattle.model.specs.Merge.{merged_number, first_unequal}
+use Rattle.model.specs.Merge.{merged_number, first_unequal, Shares}
 use Rattle.model.proofs.Bools.{by_bool, true-not-false}
 use Rattle.model.proofs.Counts.{below-lowest, lowest-same}
 use Rattle.model.proofs.Each.{each-mono}
@@ -26,36 +27,31 @@ use Rattle.model.proofs.Cleaned.{all-declared}
 use Rattle.model.proofs.Merged.{encode-count, word_count}
 use Rattle.model.proofs.ReadExact.{read-sound}
 use Rattle.model.proofs.Slices.{write-none, write-front, write-next}
-use Rattle.shape.specs.declared.Shape.{Shape}
-use Rattle.shape.specs.Declares.{Declares}
+use Rattle.shape.specs.declared.accepted.AcceptedSet.{AcceptedSet}
+use Rattle.shape.specs.SetOf.{set_of}
 use Rattle.shape.proofs.Declared.{devices-are, capacity-at}
-use Rattle.shape.proofs.Read.{read-declares}
+use Rattle.shape.proofs.WereRead.{accepted}
 use Rattle.set_writer.specs.Renamed.{renamed_word, Named}
 use Rattle.set_writer.proofs.Words.{words-renamed, words-named}
-use Rattle.merge.specs.Sets.{Accepted, Pair, NumbersAre, merged_set, merged_words}
+use Rattle.merge.specs.Sets.{NumbersAre, merged_set, merged_words}
 
 -- ---- one accepted set
--- the words are those of the set s, and the shape is its shape
-pub record Stands (words : List ℕ) (shape : Shape) (s : Set) : Type 0 where
-  pub words_are : words ≡ encode s
-  pub declared : Declares words shape s
+-- its words were read, and they are those of the set that they declare
+pub were-read : (a : AcceptedSet) → read a.words.now ≡ given (set_of a)
+were-read a = accepted a.declares
 
-pub stands : {words : List ℕ} {shape : Shape} → Accepted words shape → Stands words shape (set_in words)
-stands {words} a =
-    record {
-      words_are = (read-sound words (set_in words) a.accepted).0;
-      declared = rw a.shaped (read-declares words (set_in words) a.accepted);
-    }
+pub words-are : (a : AcceptedSet) → a.words.now ≡ encode (set_of a)
+words-are a = (read-sound a.words.now (set_of a) (were-read a)).0
 
 -- the words of the devices, those of the devices from k on, and those of the tasks
-abbrev pub all_devices_in : List ℕ → Shape → List ℕ
-all_devices_in words shape = take shape.devices words
+abbrev pub all_devices_in : AcceptedSet → List ℕ
+all_devices_in a = take a.shape.devices a.words.now
 
-abbrev pub devices_in : ℕ → List ℕ → Shape → List ℕ
-devices_in k words shape = take (shape.devices - k) (drop k words)
+abbrev pub devices_in : ℕ → AcceptedSet → List ℕ
+devices_in k a = take (a.shape.devices - k) (drop k a.words.now)
 
-abbrev pub tasks_in : List ℕ → Shape → List ℕ
-tasks_in words shape = take (length words - 1 - shape.devices) (drop shape.devices words)
+abbrev pub tasks_in : AcceptedSet → List ℕ
+tasks_in a = take (length a.words.now - 1 - a.shape.devices) (drop a.shape.devices a.words.now)
 
 module _ (s : Set) where
   abbrev cs : List ℕ
@@ -86,79 +82,69 @@ module _ (s : Set) where
       let count : length (task_words s.tasks) ≡ length (encode s) - 1 - length cs = omega (arith, encode-count s) in
       ap (take (length (encode s) - 1 - length cs)) behind ∙ take_at (task_words s.tasks) end (length (encode s) - 1 - length cs) count
 
-module _ {words : List ℕ} {shape : Shape} {s : Set} (a : Stands words shape s) where
-  pub device-count : shape.devices ≡ length s.capacities
-  device-count = devices-are a.declared
+module _ (a : AcceptedSet) where
+  abbrev its : Set
+  its = set_of a
 
-  pub count : length words ≡ length s.capacities + length (task_words s.tasks) + 1
-  count = ap length a.words_are ∙ encode-count s
+  pub device-count : a.shape.devices ≡ length its.capacities
+  device-count = devices-are a.declares
 
-  pub all-devices-words : all_devices_in words shape ≡ map (word DEVICE) s.capacities
+  pub count : length a.words.now ≡ length its.capacities + length (task_words its.tasks) + 1
+  count = ap length (words-are a) ∙ encode-count its
+
+  pub all-devices-words : all_devices_in a ≡ map (word DEVICE) its.capacities
   all-devices-words =
-      rw (device-count, a.words_are, split s)
-      (take_at (map (word DEVICE) s.capacities) (task_words s.tasks ++ end s) (length s.capacities) (length-map s.capacities (word DEVICE)))
+      ap₂ take device-count (words-are a ∙ split its)
+      ∙ take_at (map (word DEVICE) its.capacities) (task_words its.tasks ++ end its) (length its.capacities) (length-map its.capacities (word DEVICE))
 
-  pub devices-words : (k : ℕ) → k ≤ length s.capacities → devices_in k words shape ≡ map (word DEVICE) (drop k s.capacities)
-  devices-words k h = rw (device-count, a.words_are) (devices-of s k h)
+  pub devices-words : (k : ℕ) → k ≤ length its.capacities → devices_in k a ≡ map (word DEVICE) (drop k its.capacities)
+  devices-words k h = ap₂ (λ (n : ℕ) (l : List ℕ). take (n - k) (drop k l)) device-count (words-are a) ∙ devices-of its k h
 
-  pub tasks-words : tasks_in words shape ≡ task_words s.tasks
-  tasks-words = rw (device-count, a.words_are) (tasks-of s)
+  pub tasks-words : tasks_in a ≡ task_words its.tasks
+  tasks-words = ap₂ (λ (n : ℕ) (l : List ℕ). take (length l - 1 - n) (drop n l)) device-count (words-are a) ∙ tasks-of its
 
-  pub short : length words ≤ 4096
-  short = rw a.words_are a.declared.well_formed.words
+  pub short : length a.words.now ≤ 4096
+  short = omega (arith, ap length (words-are a), a.declares.well_formed.words)
 
 -- ---- two of them
-module _ {first second : List ℕ} {one two : Shape} (e : Accepted first one) (f : Accepted second two) where
-  a : Stands first one (set_in first)
-  a = stands e
-
-  b : Stands second two (set_in second)
-  b = stands f
-
+module _ (a b : AcceptedSet) (k : ℕ) where
   -- the lowest of the first k devices with two capacities in the shapes is that of the sets
-  pub unequal-is : (k : ℕ) → lowest k (λ d. not (eqb (at one.capacities d) (at two.capacities d))) ≡ first_unequal k (set_in first) (set_in second)
-  unequal-is k = lowest-same k _ _ (λ d l. ap₂ (λ (i j : ℕ). not (eqb i j)) (capacity-at a.declared d) (capacity-at b.declared d))
+  pub unequal-is : lowest k (λ d. not (eqb (at a.shape.capacities d) (at b.shape.capacities d))) ≡ first_unequal k (set_of a) (set_of b)
+  unequal-is = lowest-same k _ _ (λ d l. ap₂ (λ (i j : ℕ). not (eqb i j)) (capacity-at a.declares d) (capacity-at b.declares d))
 
   -- without one the first k devices can be the same ones
-  pub paired : (k : ℕ) → k ≤ one.devices → k ≤ two.devices → k ≤ first_unequal k (set_in first) (set_in second) → Pair k first one second two
-  paired k h l m =
-      let cs = (set_in first).capacities in
-      let ds = (set_in second).capacities in
+  pub shares : k ≤ a.shape.devices → k ≤ b.shape.devices → k ≤ first_unequal k (set_of a) (set_of b) → Shares k (set_of a) (set_of b)
+  shares h l m =
+      let cs = (set_of a).capacities in
+      let ds = (set_of b).capacities in
       let test = λ (d : ℕ). not (eqb (at cs d) (at ds d)) in
       record {
-        of_first = e;
-        of_second = f;
-        shares = record {
-          of_first = omega (arith, device-count a);
-          of_second = omega (arith, device-count b);
-          same = λ d n.
-              by_bool (eqb (at cs d) (at ds d)) (eqb-true (at cs d) (at ds d))
-              (λ z. true-not-false (test d) (rw z) (below-lowest k test d (omega arith)));
-        };
+        of_first = omega (arith, device-count a);
+        of_second = omega (arith, device-count b);
+        same = λ d n.
+            by_bool (eqb (at cs d) (at ds d)) (eqb-true (at cs d) (at ds d))
+            (λ z. true-not-false (test d) (rw z) (below-lowest k test d (omega arith)));
       }
 
 -- ---- two whose first k devices can be the same ones
 -- what is known of the parts
-pub record Parts (k : ℕ) (first : List ℕ) (one : Shape) (second : List ℕ) (two : Shape) : Type 0 where
-  pub few : (one.devices ≤ 16) × (two.devices ≤ 16)
-  pub shared : (k ≤ one.devices) × (k ≤ two.devices)
-  pub named : Named (tasks_in second two)
-  pub first-devices : length (all_devices_in first one) ≡ one.devices
-  pub own-devices : length (devices_in k second two) + k ≡ two.devices
-  pub first-tasks : length (tasks_in first one) + one.devices + 1 ≡ length first
-  pub second-tasks : length (tasks_in second two) + two.devices + 1 ≡ length second
-  pub all : length (merged_words k first second) + k + 1 ≡ length first + length second
-  pub short : (length first ≤ 4096) × (length second ≤ 4096)
+pub record Parts (k : ℕ) (a b : AcceptedSet) : Type 0 where
+  pub few : (a.shape.devices ≤ 16) × (b.shape.devices ≤ 16)
+  pub shared : (k ≤ a.shape.devices) × (k ≤ b.shape.devices)
+  pub named : Named (tasks_in b)
+  pub first-devices : length (all_devices_in a) ≡ a.shape.devices
+  pub own-devices : length (devices_in k b) + k ≡ b.shape.devices
+  pub first-tasks : length (tasks_in a) + a.shape.devices + 1 ≡ length a.words.now
+  pub second-tasks : length (tasks_in b) + b.shape.devices + 1 ≡ length b.words.now
+  pub all : length (merged_words k a.words.now b.words.now) + k + 1 ≡ length a.words.now + length b.words.now
+  pub short : (length a.words.now ≤ 4096) × (length b.words.now ≤ 4096)
 
-pub parts : {k : ℕ} {first second : List ℕ} {one two : Shape} → Pair k first one second two → Parts k first one second two
-parts {k} {first} {second} {one} {two} p =
-    let s = set_in first in
-    let t = set_in second in
-    let a = stands p.of_first in
-    let b = stands p.of_second in
-    let v = a.declared.well_formed in
-    let w = b.declared.well_formed in
-    let h = p.shares in
+pub parts : (k : ℕ) (a b : AcceptedSet) → Shares k (set_of a) (set_of b) → Parts k a b
+parts k a b h =
+    let s = set_of a in
+    let t = set_of b in
+    let v = a.declares.well_formed in
+    let w = b.declares.well_formed in
     let n = device-count a in
     let m = device-count b in
     record {
@@ -166,30 +152,28 @@ parts {k} {first} {second} {one} {two} p =
       shared = (omega (arith, n, h.of_first), omega (arith, m, h.of_second));
       named = rw (tasks-words b) (words-named t.tasks (all_fit t w));
       first-devices = ap length (all-devices-words a) ∙ length-map s.capacities (word DEVICE) ∙ sym n;
-      own-devices = rw (devices-words b k h.of_second) (omega (arith, m, h.of_second, length-map (drop k t.capacities) (word DEVICE), length-drop k t.capacities));
-      first-tasks = rw (tasks-words a) (omega (arith, n, count a));
-      second-tasks = rw (tasks-words b) (omega (arith, m, count b));
-      all = omega (arith, word_count k s t v w h, ap length a.words_are, ap length b.words_are);
+      own-devices = omega (arith, ap length (devices-words b k h.of_second), m, h.of_second, length-map (drop k t.capacities) (word DEVICE), length-drop k t.capacities);
+      first-tasks = omega (arith, ap length (tasks-words a), n, count a);
+      second-tasks = omega (arith, ap length (tasks-words b), m, count b);
+      all = omega (arith, word_count k s t v w h, ap length (words-are a), ap length (words-are b));
       short = (short a, short b);
     }
 
 -- the parts together, with the second set's tasks renamed by an array of numbers
-module _ {k : ℕ} {first second : List ℕ} {one two : Shape} (p : Pair k first one second two) (numbers : List ℕ) where
+module _ (k : ℕ) (a b : AcceptedSet) (numbers : List ℕ) where
   abbrev pub new_tasks : List ℕ
-  new_tasks = map (renamed_word (at numbers)) (tasks_in second two)
+  new_tasks = map (renamed_word (at numbers)) (tasks_in b)
 
-  pub whole : NumbersAre one.devices k two.devices numbers
-      → ((all_devices_in first one ++ devices_in k second two) ++ tasks_in first one) ++ new_tasks ≡ body (merged_set k first second)
+  pub whole : Shares k (set_of a) (set_of b) → NumbersAre a.shape.devices k b.shape.devices numbers
+      → ((all_devices_in a ++ devices_in k b) ++ tasks_in a) ++ new_tasks ≡ body (merged_set k a.words.now b.words.now)
   unfolding body
-  whole n =
-      let s = set_in first in
-      let t = set_in second in
-      let a = stands p.of_first in
-      let b = stands p.of_second in
-      let w = b.declared.well_formed in
+  whole h n =
+      let s = set_of a in
+      let t = set_of b in
+      let w = b.declares.well_formed in
       let new = merged_number (length s.capacities) k in
-      let devices : all_devices_in first one ++ devices_in k second two ≡ map (word DEVICE) (s.capacities ++ drop k t.capacities) =
-      ap₂ (λ (l m : List ℕ). l ++ m) (all-devices-words a) (devices-words b k p.shares.of_second)
+      let devices : all_devices_in a ++ devices_in k b ≡ map (word DEVICE) (s.capacities ++ drop k t.capacities) =
+      ap₂ (λ (l m : List ℕ). l ++ m) (all-devices-words a) (devices-words b k h.of_second)
       ∙ sym (map-append (word DEVICE) s.capacities (drop k t.capacities)) in
       let number : (d : ℕ) → d < length t.capacities → at numbers d ≡ new d = λ d l.
       n.each d (omega (arith, device-count b)) ∙ ap (λ (i : ℕ). merged_number i k d) (device-count a) in

@@ -1,14 +1,13 @@
 -- What the code's answer says in the terms of SCOPE.md, "Merge".
-use Rattle.std.specs.Prelude.{ℕ, List}
-use Rattle.model.specs.Answer.{Answer, given, refused, Written}
-use Rattle.merge.specs.declared.MergeAnswer.{MergeAnswer}
-use Rattle.merge.specs.declared.MergeAnswer.TheVariants.{Merged, Refused}
+use Rattle.std.specs.Prelude.{ℕ, List, Result}
+use Rattle.model.specs.Answer.{Answer, Written}
+use Rattle.refusals.specs.declared.Refusal.{Refusal}
+use Rattle.refusals.specs.Answers.{answer_of}
 
--- each case, with the number of words written, and a refusal's number and place
-unfoldable pub answer_of : MergeAnswer → Answer ℕ
-answer_of (Merged words) = given words
-answer_of (Refused number place) = refused number place
+-- the number of words written
+abbrev pub count_of : Result ℕ Refusal → Answer ℕ
+count_of = answer_of (λ words. words)
 
 -- the answer beside the slice afterwards
-abbrev pub merged_of : MergeAnswer → List ℕ → Written
-merged_of r slice = record { answer = answer_of r; slice = slice }
+abbrev pub merged_of : Result ℕ Refusal → List ℕ → Written
+merged_of r slice = record { answer = count_of r; slice = slice }

@@ -2,45 +2,36 @@
 // together can be too much: devices, tasks, the grid.
 ghost use Rattle.std.specs.Prelude.{◌≡◌};
 ghost use Rattle.model.specs.Read.{read};
-ghost use Rattle.reader.specs.Answer.{verdict_of};
-ghost use Rattle.merge.specs.Sets.{Pair, merged_words};
+ghost use Rattle.model.specs.Merge.{Shares};
+ghost use Rattle.refusals.specs.Answers.{answer_of};
+ghost use Rattle.shape.specs.SetOf.{set_of};
+ghost use Rattle.merge.specs.Sets.{merged_set, merged_words};
 
-use reader::Verdict;
-use shape::Shape;
+use refusals::{Reason, Refusal};
+use shape::AcceptedSet;
 
 const MAX_GRID: usize = model::MAX_GRID as usize;
 
 pub(crate) fn read_merged(
-    first: &[u32],
-    one: Shape,
-    second: &[u32],
-    two: Shape,
+    first: &AcceptedSet,
+    second: &AcceptedSet,
     shared: usize,
-) -> Verdict
-    requires { Pair shared first.now one second.now two }
-    ensures { result ≡ verdict_of (read (merged_words shared first.now second.now)) }
+) -> Result<(), Refusal>
+    requires { Shares shared (set_of first.now) (set_of second.now) }
+    ensures { answer_of (λ _. merged_set shared first.now.words.now second.now.words.now) result
+        ≡ read (merged_words shared first.now.words.now second.now.words.now) }
 {
-    if one.devices + two.devices - shared > model::MAX_DEVICES {
-        return Verdict::Refused {
-            number: model::TOO_MANY,
-            place: model::MAX_DEVICES,
-        };
+    if first.shape.devices + second.shape.devices - shared > model::MAX_DEVICES {
+        return Err(Reason::TooMany.at(model::MAX_DEVICES));
     }
     // The words of the second set's tasks stand so far behind their places in it.
-    let moved = first.len() - 1 - shared;
-    if one.tasks + two.tasks > model::MAX_TASKS {
-        let starts = two.starts;
-        let ninth = model::MAX_TASKS - one.tasks;
-        return Verdict::Refused {
-            number: model::TOO_MANY,
-            place: moved + starts[ninth] - 1,
-        };
+    let moved = first.words.len() - 1 - shared;
+    if first.shape.tasks + second.shape.tasks > model::MAX_TASKS {
+        let ninth = model::MAX_TASKS - first.shape.tasks;
+        return Err(Reason::TooMany.at(moved + second.shape.starts[ninth] - 1));
     }
-    if one.grid * two.grid > MAX_GRID {
-        return Verdict::Refused {
-            number: model::GRID_TOO_LARGE,
-            place: moved + second.len() - 1,
-        };
+    if first.shape.grid * second.shape.grid > MAX_GRID {
+        return Err(Reason::GridTooLarge.at(moved + second.words.len() - 1));
     }
-    Verdict::Accepted
+    Ok(())
 }

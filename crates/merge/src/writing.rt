@@ -1,10 +1,11 @@
 // The merged words, part by part.
 ghost use Rattle.std.specs.Prelude.{◌≡◌, ◌<◌, ◌≤◌, length};
 ghost use Rattle.model.specs.Slice.{over};
-ghost use Rattle.model.specs.Merge.{merged_number};
-ghost use Rattle.merge.specs.Sets.{NumbersAre, Pair, merged_set, merged_words};
+ghost use Rattle.model.specs.Merge.{merged_number, Shares};
+ghost use Rattle.shape.specs.SetOf.{set_of};
+ghost use Rattle.merge.specs.Sets.{NumbersAre, merged_words};
 
-use shape::Shape;
+use shape::AcceptedSet;
 
 // The number of a device of the second set, where the first has so many: a shared one keeps its own, the others follow the first set's.
 fn number(devices: usize, shared: usize, device: usize) -> u8
@@ -23,10 +24,8 @@ fn number_devices(devices: usize, shared: usize, others: usize) -> [u8; model::M
     ensures { NumbersAre devices shared others result }
 {
     let mut numbers = [0u8; model::MAX_DEVICES];
-    let mut d = 0;
-    while d < others {
+    for d in 0..others {
         numbers[d] = number(devices, shared, d);
-        d += 1;
     }
     numbers
 }
@@ -34,26 +33,24 @@ fn number_devices(devices: usize, shared: usize, others: usize) -> [u8; model::M
 // Writes the merged set, and answers how many words it has: the first set's DEVICEs, the second's own, the first set's tasks, the second's with its devices' new
 // numbers, and END.
 pub(crate) fn write_merged(
-    first: &[u32],
-    one: Shape,
-    second: &[u32],
-    two: Shape,
+    first: &AcceptedSet,
+    second: &AcceptedSet,
     shared: usize,
     slice: &mut [u32],
 ) -> usize
-    requires pair { Pair shared first.now one second.now two }
-    requires second_in_bounds { length (merged_words shared first.now second.now) ≤ length slice.old }
-    ensures value { result ≡ length (merged_words shared first.now second.now) }
-    ensures slice_after { slice.new ≡ over (merged_words shared first.now second.now) slice.old }
+    requires shares { Shares shared (set_of first.now) (set_of second.now) }
+    requires second_in_bounds { length (merged_words shared first.now.words.now second.now.words.now) ≤ length slice.old }
+    ensures value { result ≡ length (merged_words shared first.now.words.now second.now.words.now) }
+    ensures slice_after { slice.new ≡ over (merged_words shared first.now.words.now second.now.words.now) slice.old }
 {
-    let devices = one.devices;
-    let others = two.devices;
-    let end = first.len() - 1;
-    let last = second.len() - 1;
+    let devices = first.shape.devices;
+    let others = second.shape.devices;
+    let end = first.words.len() - 1;
+    let last = second.words.len() - 1;
     let numbers = number_devices(devices, shared, others);
-    let own = set_writer::write_words(&first[..devices], slice, 0);
-    let tasks = set_writer::write_words(&second[shared..others], slice, own);
-    let more = set_writer::write_words(&first[devices..end], slice, tasks);
-    let to = set_writer::write_tasks(&second[others..last], &numbers, slice, more);
+    let own = set_writer::write_words(&first.words[..devices], slice, 0);
+    let tasks = set_writer::write_words(&second.words[shared..others], slice, own);
+    let more = set_writer::write_words(&first.words[devices..end], slice, tasks);
+    let to = set_writer::write_tasks(&second.words[others..last], &numbers, slice, more);
     set_writer::write_end(slice, to)
 }

@@ -1,4 +1,3 @@
--- What the walk's contracts rest on: its turns, what it has found, and what its end says of the model's answer.
-pub mod Turns
+-- What the walk's contract rests on: what it has found, and that each word it takes keeps the answer.
 pub mod Found
 pub mod Ends

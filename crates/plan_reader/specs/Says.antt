@@ -1,12 +1,11 @@
 -- What the code's answer says in the terms of SCOPE.md, "Stored plans".
-use Rattle.model.specs.Answer.{Answer, given, refused}
-use Rattle.model.specs.StoredPlan.{Location, in-forbidden, in-unsafe, in_neither}
-use Rattle.plan_reader.specs.declared.Located.{Located}
-use Rattle.plan_reader.specs.declared.Located.TheVariants.{Forbidden, Unsafe, Neither, Refused}
+use Rattle.model.specs.StoredPlan as model
+use Rattle.model.specs.StoredPlan.{in-forbidden, in-unsafe, in_neither}
+use Rattle.plan_reader.specs.declared.Location.{Location}
+use Rattle.plan_reader.specs.declared.Location.TheVariants.{Forbidden, Unsafe, Neither}
 
--- each case, with the index of the box's first word, and a refusal's number and place
-unfoldable pub answer_of : Located → Answer Location
-answer_of (Forbidden index) = given (in-forbidden index)
-answer_of (Unsafe index) = given (in-unsafe index)
-answer_of Neither = given in_neither
-answer_of (Refused number place) = refused number place
+-- each case, with the index of the box's first word
+unfoldable pub location_of : Location → model.Location
+location_of (Forbidden index) = in-forbidden index
+location_of (Unsafe index) = in-unsafe index
+location_of Neither = in_neither

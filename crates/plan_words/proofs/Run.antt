@@ -1,11 +1,11 @@
 -- A loop that writes what f gives for each number below count, one after the other: one law for every such loop.
+use Rattle.std.specs.Prelude.{Option, Some, None}
 use mathlib.Core.Path.{◌≡◌, refl, sym, ap, subst, ◌∙◌}
 use mathlib.Core.List.{List, [], ◌∷◌, ◌++◌}
 use Prim.Native.Nat.{ℕ, suc, ◌+◌, ◌-◌, ◌≤◌, ◌<◌}
 use native.Mathlib.Nat.{sub-zero}
 use native.Mathlib.Omega.{arith}
 use lib.ListN.{length, set, length-append}
-use Rattle.plan_words.specs.declared.Placed.{Placed}
 use Rattle.model.specs.Slice.{write}
 use Rattle.model.proofs.Slices.{length-write, write-none, write_then}
 use Rattle.plan_words.specs.Words.{Wrote, up_to}
@@ -64,17 +64,17 @@ module _ (f : ℕ → List ℕ) (p₀ : List ℕ) (at count : ℕ) where
     stored_one {v} e g = stored (rw e (read_next (wrote_one {v = v} g)))
 
     -- what it gives doesn't fit
-    pub overflows : {q : List ℕ} → length p < to + length (f i) → Wrote p₀ at (rest 0) Placed.Full q
+    pub overflows : {q : List ℕ} → length p < to + length (f i) → Wrote p₀ at (rest 0) None q
     overflows w = wrote-full (omega (arith, split))
 
     -- the two by the answer of a call that was to write it
-    pub placed : {x : Placed} {r : ℕ} {q : List ℕ} → Wrote p to (f i) x q → x ≡ Placed.Next r → Turn q r (i + 1)
-    placed {x} {r} {q} w e = stored (read_next (subst (λ (y : Placed). Wrote p to (f i) y q) e w))
+    pub placed : {x : Option ℕ} {r : ℕ} {q : List ℕ} → Wrote p to (f i) x q → x ≡ Some r → Turn q r (i + 1)
+    placed {x} {r} {q} w e = stored (read_next (subst (λ (y : Option ℕ). Wrote p to (f i) y q) e w))
 
-    pub full : {x : Placed} {q q' : List ℕ} → Wrote p to (f i) x q → x ≡ Placed.Full → Wrote p₀ at (up_to count 0 f) Placed.Full q'
+    pub full : {x : Option ℕ} {q q' : List ℕ} → Wrote p to (f i) x q → x ≡ None → Wrote p₀ at (up_to count 0 f) None q'
     full {x} {q} {q'} w e =
-        subst (λ (k : ℕ). Wrote p₀ at (up_to k 0 f) Placed.Full q') (sub-zero count)
-        (overflows (read-full (subst (λ (y : Placed). Wrote p to (f i) y q) e w)))
+        subst (λ (k : ℕ). Wrote p₀ at (up_to k 0 f) None q') (sub-zero count)
+        (overflows (read-full (subst (λ (y : Option ℕ). Wrote p to (f i) y q) e w)))
 
   -- the numbers from i on give nothing: they are passed over
   pub passed : {p : List ℕ} {to i : ℕ} → Turn p to i → ((j : ℕ) → i ≤ j → j < count → f j ≡ []) → Turn p to count
@@ -89,7 +89,7 @@ module _ (f : ℕ → List ℕ) (p₀ : List ℕ) (at count : ℕ) where
         words = λ g. rw s (rw e at (now.words g));
       }
 
-  pub ends : {p : List ℕ} {to i : ℕ} → Turn p to i → count ≤ i → Wrote p₀ at (rest 0) (Placed.Next to) p
+  pub ends : {p : List ℕ} {to i : ℕ} → Turn p to i → count ≤ i → Wrote p₀ at (rest 0) (Some to) p
   ends {p} {to} {i} now h =
       let s : rest i ≡ [] = none i h in
       let k : length (rest i) ≡ 0 = ap length s in
@@ -97,5 +97,5 @@ module _ (f : ℕ → List ℕ) (p₀ : List ℕ) (at count : ℕ) where
       wrote-next g (omega arith) (sym (write-none p to (omega arith)) ∙ ap (write p to) (sym s) ∙ now.words g)
 
   -- after the last number all is written
-  pub finished : {p : List ℕ} {to i : ℕ} → Turn p to i → count ≤ i → Wrote p₀ at (up_to count 0 f) (Placed.Next to) p
-  finished {p} {to} {i} now h = subst (λ (k : ℕ). Wrote p₀ at (up_to k 0 f) (Placed.Next to) p) (sub-zero count) (ends now h)
+  pub finished : {p : List ℕ} {to i : ℕ} → Turn p to i → count ≤ i → Wrote p₀ at (up_to count 0 f) (Some to) p
+  finished {p} {to} {i} now h = subst (λ (k : ℕ). Wrote p₀ at (up_to k 0 f) (Some to) p) (sub-zero count) (ends now h)

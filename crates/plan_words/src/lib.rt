@@ -7,26 +7,22 @@ ghost use Rattle.model.specs.Layout.{word};
 ghost use Rattle.model.specs.Hold.{within};
 ghost use Rattle.model.specs.Plan.{FORBIDDEN_BOX, UNSAFE_BOX, side_word, side_of};
 ghost use Rattle.model.specs.StoredPlan.{is_side};
+ghost use Rattle.set_words.specs.Kinds.{number_of};
 ghost use Rattle.plan_words.specs.Words.{Wrote};
 
+use set_words::Kind;
+
 // Words with field 0.
-const FORBIDDEN_WORD: u32 = model::FORBIDDEN_BOX * model::FIELDS;
+const FORBIDDEN_WORD: u32 = Kind::ForbiddenBox as u32 * model::FIELDS;
 
-const UNSAFE_WORD: u32 = model::UNSAFE_BOX * model::FIELDS;
+const UNSAFE_WORD: u32 = Kind::UnsafeBox as u32 * model::FIELDS;
 
-const SIDE_WORD: u32 = model::SIDE * model::FIELDS;
+const SIDE_WORD: u32 = Kind::Side as u32 * model::FIELDS;
 
 // A side's field is its task, lowest and highest position, a byte each.
 const TASK_UNIT: u32 = 65536;
 
 const LOW_UNIT: u32 = 256;
-
-// What became of words to write: the place after them, or that they don't fit.
-#[derive(Clone, Copy)]
-pub enum Placed {
-    Next(usize),
-    Full,
-}
 
 // The first word of a forbidden box of a device.
 pub fn forbidden_box(device: u32) -> u32
@@ -89,24 +85,23 @@ pub fn side_holds(side: u32, position: u8) -> bool
 }
 
 // The word of a kind that names a state, by its rank.
-pub fn rank_word(kind: u32, rank: usize) -> u32
-    requires kind_bound { kind < 16 }
-    requires rank_bound { rank < 65536 }
-    ensures { result ≡ word kind rank }
+pub fn rank_word(kind: Kind, rank: usize) -> u32
+    requires { rank < 65536 }
+    ensures { result ≡ word (number_of kind) rank }
 {
-    kind * model::FIELDS + rank as u32
+    kind.number() * model::FIELDS + rank as u32
 }
 
-// One word, written if it fits.
-pub fn put(plan: &mut [u32], at: usize, word: u32) -> Placed
+// One word, written if it fits; the answer is the place after it, None where it doesn't fit.
+pub fn put(plan: &mut [u32], at: usize, word: u32) -> Option<usize>
     requires { at ≤ length plan.old }
     ensures { Wrote plan.old at (word ∷ []) result plan.new }
 {
     if at == plan.len() {
-        return Placed::Full;
+        return None;
     }
     plan[at] = word;
-    Placed::Next(at + 1)
+    Some(at + 1)
 }
 
 // The word of task j in a box where that of one task is given.
@@ -126,20 +121,18 @@ pub fn write_box(
     count: usize,
     task: usize,
     word: u32,
-) -> Placed
+) -> Option<usize>
     requires sides_len { length sides.now ≡ 8 }
     requires at_in_bounds { at ≤ length plan.old }
     requires count_bound { count ≤ 8 }
     ensures { Wrote plan.old at (header ∷ take count (set sides.now task word)) result plan.new }
 {
     if plan.len() - at < count + 1 {
-        return Placed::Full;
+        return None;
     }
     plan[at] = header;
-    let mut j = 0;
-    while j < count {
+    for j in 0..count {
         plan[at + 1 + j] = side_of(j, task, word, sides[j]);
-        j += 1;
     }
-    Placed::Next(at + 1 + count)
+    Some(at + 1 + count)
 }

@@ -6,9 +6,6 @@ ghost use Rattle.model.specs.Answer.{◌then◌};
 ghost use Rattle.model.specs.Read.{read};
 ghost use Rattle.model.specs.Printed.{to_print, text_of, shown, printed_in};
 
-use analysis::Outcome;
-use listing::Decoded;
-
 // The slices lent to the analysis: a byte for each state of the largest grid, and the most words of a plan that is printed.
 const MAP: usize = model::MAX_GRID as usize;
 
@@ -31,8 +28,8 @@ pub fn print(bytes: &[u8], text: &mut [u8]) -> usize
     }
     let mut words = [0u32; model::MAX_WORDS];
     match listing::decode(bytes, &mut words) {
-        Decoded::Words(count) => print_plan(&words[..count], text),
-        Decoded::Refused { number, place } => listing::put_refusal(number, place, text),
+        Ok(count) => print_plan(&words[..count], text),
+        Err(refusal) => listing::put_refusal(refusal, text),
     }
 }
 
@@ -45,8 +42,7 @@ fn print_plan(words: &[u32], text: &mut [u8]) -> usize
     let mut map = [NOT_ANALYSED; MAP];
     let mut plan = [0u32; PLAN];
     match analysis::analyse(words, &mut map, &mut plan) {
-        Outcome::Planned { words: count, .. } => listing::fill_lines(&plan[..count], text)
-            * listing::LINE,
-        Outcome::Refused { number, place } => listing::put_refusal(number, place, text),
+        Ok(planned) => listing::fill_lines(&plan[..planned.words], text) * listing::LINE,
+        Err(refused) => listing::put_refusal(refused, text),
     }
 }

@@ -30,13 +30,11 @@ pub fn read_arguments(rt: HostRuntime) -> Asked {
     let Ok(n) = rt.arg(FIRST, &mut word) else {
         return Asked::Other;
     };
-    if same(&word[..n], b"--help") {
-        return Asked::Help;
+    match &word[..n] {
+        b"--help" => Asked::Help,
+        b"--version" => Asked::Version,
+        _ => Asked::Other,
     }
-    if same(&word[..n], b"--version") {
-        return Asked::Version;
-    }
-    Asked::Other
 }
 
 // Whether there is an argument at this place, an empty one too.
@@ -46,18 +44,4 @@ pub fn is_given(rt: HostRuntime, place: usize) -> bool {
         Ok(_) | Err(FillError::TooLong) => true,
         Err(FillError::NotPresent) => false,
     }
-}
-
-fn same(a: &[u8], b: &[u8]) -> bool {
-    if a.len() != b.len() {
-        return false;
-    }
-    let mut i = 0;
-    while i < a.len() {
-        if a[i] != b[i] {
-            return false;
-        }
-        i += 1;
-    }
-    true
 }

@@ -10,19 +10,24 @@ const TEXT: usize = 256;
 // What stands between an error's text and its number.
 const NUMBER: &str = " (os error ";
 
+// Says that the program of this name could not read its input.
+pub fn unread(rt: &impl Eprint, name: &str, error: Error) {
+    fail(rt, name, "can't read standard input", error);
+}
+
 // Says it where something was not written.
-pub fn written(rt: &impl Eprint, outcome: Result<()>, otherwise: &str) {
+pub fn written(rt: &impl Eprint, name: &str, outcome: Result<()>) {
     if let Err(error) = outcome {
-        fail(rt, otherwise, error);
+        fail(rt, name, "can't write standard output", error);
     }
 }
 
-// A line: what failed, a colon and the error's text, without its number.
-pub fn fail(rt: &impl Eprint, what: &str, error: Error) {
+// A line: the program, what failed and the error's text, without its number, with colons between them.
+fn fail(rt: &impl Eprint, name: &str, what: &str, error: Error) {
     let mut bytes = [0u8; TEXT];
     let count = put_error(error, &mut bytes);
     let why = without_number(str::from_utf8(&bytes[..count]).unwrap_or(""));
-    let _ = eprintln!(rt; "{what}: {why}");
+    let _ = eprintln!(rt; "{name}: {what}: {why}");
 }
 
 // Puts an error's text at the start of `bytes`, and answers how many bytes it has there.

@@ -6,12 +6,14 @@ mod arguments;
 mod failures;
 mod input;
 mod numbers;
+mod whole;
 
 pub use arguments::{Asked, is_given, read_arguments};
-pub use failures::{fail, written};
-pub use input::{Input, read_all};
-pub use numbers::{Number, read_number};
+pub use failures::{unread, written};
+pub use input::read_all;
+pub use numbers::read_number;
 use std::io::Result;
+pub use whole::filter;
 
 // The parts of a version's number.
 const MAJOR: u32 = 10000;
@@ -20,12 +22,8 @@ const MINOR: u32 = 100;
 
 // A program's name and version, on one line.
 pub fn print_version(rt: &impl Print, name: &str) -> Result<()> {
-    rt.print(name)?;
-    print_part(rt, model::VERSION / MAJOR, ".")?;
-    print_part(rt, model::VERSION / MINOR % MINOR, ".")?;
-    print_part(rt, model::VERSION % MINOR, "\n")
-}
-
-fn print_part(rt: &impl Print, n: u32, after: &str) -> Result<()> {
-    print!(rt; "{n}{after}")
+    let major = model::VERSION / MAJOR;
+    let minor = model::VERSION / MINOR % MINOR;
+    let patch = model::VERSION % MINOR;
+    println!(rt; "{name} {major}.{minor}.{patch}")
 }

@@ -6,6 +6,7 @@ use mathlib.Core.Bool.{Bool, true, false, not, cond}
 use native.Mathlib.Omega.{arith}
 use borrow.Author.Tests.{lt-ltb, le-ltb}
 use lib.ListN.{length, get_or}
+use Rattle.std.proofs.Common.{Option, Some, None}
 use Rattle.model.specs.Below.{lowest, tabulate}
 use Rattle.model.specs.Answer.{refused, ◌then◌}
 use Rattle.model.specs.Set.{Set, claimed}
@@ -14,7 +15,8 @@ use Rattle.model.specs.Read.{read_words, first_unclaimed, close, read_by}
 use Rattle.model.proofs.Counts.{lowest-same}
 use Rattle.model.proofs.Lists.{get_d_tabulate}
 use Rattle.reader.specs.declared.scan.Scan.{Scan}
-use Rattle.reader.specs.Follow.{Ended}
+use Rattle.reader.specs.Follow.{Ended, lowest_found}
+use Rattle.reader.proofs.Found.{some-below, none-below}
 
 -- the lowest of so many devices that isn't marked as claimed
 abbrev pub unmarked : ℕ → List Bool → ℕ
@@ -46,21 +48,23 @@ module _ (ws : List ℕ) (s : Scan) (e : Ended ws s) where
   same_count = ap (λ (x : Scan). x.devices) e.same
 
   -- the device that the rules object to, as the code looks for it
-  abbrev found : Rules → ℕ
-  found rules = cond rules (unmarked s.devices s.claimed) s.devices
+  abbrev found : Rules → Option ℕ
+  found rules = cond rules (lowest_found s.devices (λ d. not (get_or s.claimed d false))) None
 
   -- 24
-  pub unclaimed : (rules : Rules) → found rules < s.devices → read_by rules ws ≡ refused 24 (found rules)
+  pub unclaimed : (rules : Rules) (d : ℕ) → found rules ≡ Some d → read_by rules ws ≡ refused 24 d
   unfolding close
-  unclaimed true h =
-      let less : first_unclaimed declared < length declared.capacities = omega (arith, same-device, same_count) in
-      closed true ∙ rw (lt-ltb (first_unclaimed declared) (length declared.capacities) less) (ap (λ (d : ℕ). refused 24 d) (sym same-device))
-  unclaimed false h = absurd (omega arith)
+  unclaimed true d e =
+      let some = some-below s.devices (unmarked s.devices s.claimed) d e in
+      let less : first_unclaimed declared < length declared.capacities = omega (arith, same-device, same_count, some.1) in
+      closed true ∙ rw (lt-ltb (first_unclaimed declared) (length declared.capacities) less) (ap (λ (d : ℕ). refused 24 d) (sym same-device ∙ some.0))
+  unclaimed false d e = absurd cc
 
   -- no device is objected to: what comes next is one for all rules
-  pub no-objection : (rules : Rules) → s.devices ≤ found rules → read_by rules ws ≡ close former (length ws) declared
+  pub no-objection : (rules : Rules) → found rules ≡ None → read_by rules ws ≡ close former (length ws) declared
   unfolding close
-  no-objection true h =
-      let none : length declared.capacities ≤ first_unclaimed declared = omega (arith, same-device, same_count) in
+  no-objection true e =
+      let none : length declared.capacities ≤ first_unclaimed declared =
+      omega (arith, same-device, same_count, none-below s.devices (unmarked s.devices s.claimed) e) in
       closed true ∙ rw (le-ltb (first_unclaimed declared) (length declared.capacities) none)
-  no-objection false h = closed false
+  no-objection false e = closed false

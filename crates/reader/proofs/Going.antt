@@ -1,12 +1,12 @@
 -- From word to word: a word without a fault leads on, by its kind.
 use Prim.Native.Nat.{ℕ, suc, ◌+◌, ◌-◌, ◌≤◌, ◌<◌}
-use mathlib.Core.Path.{◌≡◌, refl, sym, ap, ◌∙◌}
+use mathlib.Core.Path.{◌≡◌, sym, ap, ◌∙◌}
 use mathlib.Core.List.{List}
 use mathlib.Core.Bool.{Bool, true, cond}
 use native.Mathlib.Numerals.{add-one}
 use native.Mathlib.Omega.{arith}
 use borrow.Author.Tests.{lt-ltb}
-use lib.ListN.{length, set, length-map}
+use lib.ListN.{length, set, length-map, length-set}
 use lib.Seq.{drop-cons, get_or-set_same, set-get_or, set-set}
 use Rattle.model.specs.Set.{lengths, at}
 use Rattle.model.specs.Layout.{kind_of, field_of}
@@ -40,6 +40,9 @@ module _ (ws : List ℕ) (s : Scan) (i : ℕ) (here : Reached ws s i) where
 
   pub few-tasks : s.tasks ≤ 8
   few-tasks = rw here.same here.limits.tasks
+
+  pub length-counts : length s.lengths ≡ 8
+  length-counts = rw here.same (length-tabulate 8 _)
 
   -- the word at i
   abbrev k : ℕ
@@ -75,7 +78,7 @@ module _ (ws : List ℕ) (s : Scan) (i : ℕ) (here : Reached ws s i) where
       let ts = m.set.tasks in
       rw here.same (rw (length-map {B = ℕ} ts length) at (padded-past 8 (lengths ts)))
 
-  pub opens : i < length ws → k ≡ 2 → task_fault s.tasks s.held f ≡ 0 → Opened ws (with_task s i) s.devices s.capacities (s.tasks + 1) s.held s.claimed (i + 1)
+  pub opens : i < length ws → k ≡ 2 → task_fault s.tasks s.held f ≡ 0 → Opened ws (with_task s i) (i + 1)
   opens h kind free =
       let faultless : fault m i 2 f ≡ 0 = sym (task-fault m i here.limits f) ∙ (rw here.same at free) in
       let none = sym (some-held m i here.limits) ∙ (rw here.same at (task-kept s.tasks s.held f free).1) in
@@ -85,11 +88,6 @@ module _ (ws : List ℕ) (s : Scan) (i : ℕ) (here : Reached ws s i) where
             goes_on (with_task s i) h (rw kind faultless) (rw kind (opened-limits m i f here.limits faultless))
             (ap (λ (x : Scan). with_task x i) here.same ∙ rw kind (opened m i f here.limits none));
         some = omega arith;
-        device-count = refl;
-        of_capacities = refl;
-        task-count = refl;
-        holds = refl;
-        claimed_so_far = refl;
         none = rw last none-past;
       }
 
@@ -104,27 +102,31 @@ module _ (ws : List ℕ) (s : Scan) (i : ℕ) (here : Reached ws s i) where
       (rw kind (acted-limits m i f here.limits some-open b (lt-ltb (named b f) (length m.set.capacities) declared)))
       (ap (λ (x : Scan). with_action x b f) here.same ∙ rw (kind, count-last 8 ts some-open here.limits.tasks) (acted m i f here.limits some-open b faultless))
 
--- in the task just opened: no action yet, and one more
-module _ (ws : List ℕ) (s : Scan) (devices : ℕ) (capacities : List ℕ) (tasks : ℕ) (held₀ claimed₀ : List Bool) (from : ℕ) (o : Opened ws s devices capacities tasks held₀ claimed₀ from) where
+-- the task just opened has no action yet
+pub no-action : (ws : List ℕ) (s : Scan) (from : ℕ) → Opened ws s from → Reached ws (counted s (from - from)) from
+no-action ws s from o =
+    let zero : from - from ≡ 0 = omega arith in
+    let same : set s.lengths (s.tasks - 1) 0 ≡ s.lengths = rw o.none at (set-get_or s.lengths (s.tasks - 1) 0) in
+    rw (zero, same) o.reached
+
+-- and one more where it has an action for each word from its start
+module _ (ws : List ℕ) (s : Scan) (from i : ℕ) (some : 1 ≤ s.tasks) (here : Reached ws (counted s (i - from)) i) where
   abbrev t : ℕ
   t = s.tasks - 1
 
-  pub in_array : t < length s.lengths
+  in_array : t < length s.lengths
   in_array =
-      let all : length s.lengths ≡ 8 = rw o.reached.same (length-tabulate 8 _) in
-      omega (arith, few-tasks ws s from o.reached, all, o.some)
+      omega (arith, few-tasks ws (counted s (i - from)) i here, length-set s.lengths t (i - from), length-counts ws (counted s (i - from)) i here, some)
 
-  pub no-action : Reached ws (counted s (from - from) held₀ claimed₀) from
-  no-action =
-      let zero : from - from ≡ 0 = omega arith in
-      let same : set s.lengths t 0 ≡ s.lengths = rw o.none at (set-get_or s.lengths t 0) in
-      rw (zero, same, o.holds, o.claimed_so_far) o.reached
+  -- the scan when it is noted what an action on a device does
+  abbrev noted : Bool → ℕ → Scan
+  noted b d = record s { held = set s.held d b; claimed = set s.claimed d true }
 
-  pub one-action : (held claims : List Bool) (i : ℕ) → Reached ws (counted s (i - from) held claims) i → from ≤ i → i < length ws → (b : Bool) → kind_of (at ws i) ≡ cond b 3 4
-      → action_fault devices capacities tasks (i - from) held b (field_of (at ws i)) ≡ 0
-      → Reached ws (counted s (i + 1 - from) (set held (named b (field_of (at ws i))) b) (set claims (named b (field_of (at ws i))) true)) (i + 1)
-  one-action held claims i here later h b kind free =
+  pub one-action : from ≤ i → i < length ws → (b : Bool) → kind_of (at ws i) ≡ cond b 3 4
+      → action_fault s.devices s.capacities s.tasks (i - from) s.held b (field_of (at ws i)) ≡ 0
+      → Reached ws (counted (noted b (named b (field_of (at ws i)))) (i + 1 - from)) (i + 1)
+  one-action later h b kind free =
       let now : at (set s.lengths t (i - from)) t ≡ i - from = get_or-set_same s.lengths t (i - from) 0 in_array in
       let more : i - from + 1 ≡ i + 1 - from = omega arith in
-      let next = acts ws (counted s (i - from) held claims) i here b h kind o.some (rw (now, ← o.device-count, ← o.of_capacities, ← o.task-count) free) in
+      let next = acts ws (counted s (i - from)) i here b h kind some (rw now free) in
       rw (now, set-set s.lengths t (i - from) (i - from + 1), more) at next

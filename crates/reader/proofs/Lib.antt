@@ -1,4 +1,5 @@
 -- The laws of the reader. Facts: what its answer tells every caller.
+pub mod Found
 pub mod Held
 pub mod Arrays
 pub mod LastTask

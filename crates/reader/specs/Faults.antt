@@ -1,10 +1,17 @@
 -- The number that a word brings after what the code has noted, by its kind: that of the first rule that it breaks, 0 if none. By `proofs/FaultLaws` it is the model's.
-use Rattle.std.specs.Prelude.{ℕ, suc, ◌-◌, Bool, true, false, not, cond, ◌&&◌, List, get_or, eqb, ltb, leb}
+use Rattle.std.specs.Prelude.{ℕ, suc, ◌-◌, Bool, true, false, not, cond, ◌&&◌, List, get_or, eqb, ltb, leb, Option, Some, None}
 use Rattle.std.specs.Bool.{beq}
 use Rattle.model.specs.Below.{any}
 use Rattle.model.specs.Set.{at}
 use Rattle.model.specs.Layout.{device_bits, extra_bits, DEVICE, TASK, CLAIM, RELEASE, END}
+use Rattle.refusals.specs.declared.Reason.{Reason}
+use Rattle.refusals.specs.Answers.{number_of}
 use Rattle.reader.specs.declared.scan.Scan.{Scan}
+
+-- the number of a fault that the code found, 0 if it found none
+unfoldable pub fault_number : Option Reason → ℕ
+fault_number None = 0
+fault_number (Some reason) = number_of reason
 
 -- some device is held
 abbrev pub some_held : List Bool → Bool

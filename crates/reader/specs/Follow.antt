@@ -1,15 +1,16 @@
 -- How the code's scan follows the model's word by word: for the contracts of the reader's own functions.
-use Rattle.std.specs.Prelude.{ℕ, ◌+◌, ◌-◌, ◌<◌, ◌≤◌, ◌≡◌, Bool, false, cond, List, length, set, drop, replicate}
-use Rattle.model.specs.Below.{tabulate}
+use Rattle.std.specs.Prelude.{ℕ, ◌+◌, ◌-◌, ◌<◌, ◌≤◌, ◌≡◌, Bool, false, cond, List, length, set, drop, ltb, Option, Some, None, Result, Ok, Err}
+use Rattle.model.specs.Below.{tabulate, lowest}
 use Rattle.model.specs.Set.{lengths_of, claimed, at, size}
 use Rattle.model.specs.Layout.{kind_of, field_of, DEVICE, TASK, CLAIM, RELEASE, END, task_words, former}
 use Rattle.model.specs.Answer.{given, refused}
 use Rattle.model.specs.Read.{holds_now, read_from, read_words}
 use Rattle.model.specs.Read as model
+use Rattle.refusals.specs.declared.Refusal.{Refusal}
+use Rattle.refusals.specs.Answers.{number_of, answer_of}
 use Rattle.shape.specs.ShapeOf.{padded, starts_from, weights_of}
 use Rattle.reader.specs.declared.scan.Scan.{Scan}
 use Rattle.reader.specs.declared.weights.Weights.{Weights}
-use Rattle.reader.specs.declared.words.Words.{Words}
 use Rattle.reader.specs.declared.Reading.{Reading}
 use Rattle.reader.specs.Answer.{answer}
 use Rattle.reader.specs.Faults.{device_fault, task_fault, action_fault, word_fault}
@@ -45,23 +46,14 @@ pub record Reached (ws : List ℕ) (s : Scan) (i : ℕ) : Type 0 where
   pub rest : read_words ws ≡ read_from scan i (drop i ws)
   pub within : i ≤ length ws
 
--- so many devices, and no task yet
-abbrev pub no_tasks : ℕ → List ℕ → Scan
-no_tasks devices capacities = scanned devices capacities 0 (replicate 8 0) (replicate 8 0) (replicate 16 false) (replicate 16 false)
+-- the scan whose last task has c actions
+abbrev pub counted : Scan → ℕ → Scan
+counted s c = record s { lengths = set s.lengths (s.tasks - 1) c }
 
--- the scan whose last task has c actions and then holds these devices, while these are claimed
-abbrev pub counted : Scan → ℕ → List Bool → List Bool → Scan
-counted s c held claims = scanned s.devices s.capacities s.tasks (set s.lengths (s.tasks - 1) c) s.starts held claims
-
--- i words led to the opening of the last of so many tasks, with so many devices of these capacities
-pub record Opened (ws : List ℕ) (s : Scan) (devices : ℕ) (capacities : List ℕ) (tasks : ℕ) (held claims : List Bool) (i : ℕ) : Type 0 where
+-- i words led to the opening of the last task, which has no action yet
+pub record Opened (ws : List ℕ) (s : Scan) (i : ℕ) : Type 0 where
   pub reached : Reached ws s i
   pub some : 1 ≤ s.tasks
-  pub device-count : devices ≡ s.devices
-  pub of_capacities : capacities ≡ s.capacities
-  pub task-count : tasks ≡ s.tasks
-  pub holds : held ≡ s.held
-  pub claimed_so_far : claims ≡ s.claimed
   pub none : at s.lengths (s.tasks - 1) ≡ 0
 
 -- why the devices stop at index i: the word there, if there is one, is no DEVICE or has a fault
@@ -91,9 +83,13 @@ pub record Ended (ws : List ℕ) (s : Scan) : Type 0 where
   pub some : 0 < length ws
 
 -- what all words come to: the first fault, or a whole set
-pub record ReadsAll (ws : List ℕ) (r : Words) : Type 0 where
-  pub stopped : 0 < r.fault → read_words ws ≡ refused r.fault r.place
-  pub whole : r.fault ≤ 0 → Ended ws r.scan
+abbrev pub ReadsAll : List ℕ → Result Scan Refusal → Type 0
+ReadsAll ws (Ok s) = Ended ws s
+ReadsAll ws (Err r) = read_words ws ≡ refused (number_of r.reason) r.place
+
+-- the lowest number below n that passes f, none if none does
+abbrev pub lowest_found : ℕ → (ℕ → Bool) → Option ℕ
+lowest_found n f = cond (ltb (lowest n f) n) (Some (lowest n f)) None
 
 -- the grid of the action counts ls and the weights of their tasks, or a grid over 65,536 if theirs is
 pub record Weighs (ls : List ℕ) (w : Weights) : Type 0 where
@@ -102,5 +98,5 @@ pub record Weighs (ls : List ℕ) (w : Weights) : Type 0 where
   pub weights : w.grid ≤ 65536 → w.of ≡ padded 8 (weights_of ls)
 
 -- the answer r after n words without a fault, END the last of them, of a set to whose devices the rules don't object
-abbrev pub Closes : Scan → ℕ → Reading → Type 0
-Closes s n r = (m : model.Scan) → length m.set.tasks ≤ 8 → s ≡ scan_of m → r ≡ answer (model.close former n m.set)
+abbrev pub Closes : Scan → ℕ → Result Reading Refusal → Type 0
+Closes s n r = (m : model.Scan) → length m.set.tasks ≤ 8 → s ≡ scan_of m → answer_of (λ (a : Reading). a) r ≡ answer (model.close former n m.set)

@@ -1,165 +1,145 @@
-// The number that a word brings, by its kind: that of the first rule that it breaks, NO_FAULT if it breaks none.
-// Here alone the rules have their numbers and their order, for words in a row and for a single word.
-ghost use Rattle.std.specs.Prelude.{◌≡◌, ◌-◌, ◌≤◌};
+// The fault that a word brings, by its kind: the first rule that it breaks, if it breaks any.
+// Here alone the rules have their reasons and their order, for words in a row and for a single word.
+ghost use Rattle.std.specs.Prelude.{◌≡◌, ◌≤◌};
 ghost use Rattle.model.specs.Layout.{kind_of, field_of};
-ghost use Rattle.reader.specs.Faults.{device_fault, task_fault, held_fault, units_fault, action_fault, end_fault, word_fault};
+ghost use Rattle.reader.specs.Faults.{fault_number, device_fault, task_fault, held_fault, units_fault, action_fault, end_fault, word_fault};
 
 use crate::rules;
 use crate::scan::Scan;
-
-// The number of a word without a fault.
-pub(crate) const NO_FAULT: u8 = 0;
+use refusals::Reason;
+use set_words::Kind;
 
 // DEVICE, after so many devices and tasks.
-pub(crate) fn device_fault(devices: usize, tasks: usize, field: u32) -> u8
-    ensures { result ≡ device_fault devices tasks field }
+pub(crate) fn device_fault(devices: usize, tasks: usize, field: u32) -> Option<Reason>
+    ensures { fault_number result ≡ device_fault devices tasks field }
 {
     if rules::after_a_task(tasks) {
-        return model::OUT_OF_ORDER;
+        return Some(Reason::OutOfOrder);
     }
     if !rules::capacity_allowed(field) {
-        return model::FIELD_NOT_ALLOWED;
+        return Some(Reason::FieldNotAllowed);
     }
     if rules::too_many_devices(devices) {
-        return model::TOO_MANY;
+        return Some(Reason::TooMany);
     }
-    NO_FAULT
+    None
 }
 
 // TASK, after so many tasks, the last of which holds these devices.
-pub(crate) fn task_fault(tasks: usize, held: &[bool; model::MAX_DEVICES], field: u32) -> u8
-    ensures { result ≡ task_fault tasks held.now field }
+pub(crate) fn task_fault(
+    tasks: usize,
+    held: &[bool; model::MAX_DEVICES],
+    field: u32,
+) -> Option<Reason>
+    ensures { fault_number result ≡ task_fault tasks held.now field }
 {
     if !rules::field_empty(field) {
-        return model::FIELD_NOT_ALLOWED;
+        return Some(Reason::FieldNotAllowed);
     }
     if rules::too_many_tasks(tasks) {
-        return model::TOO_MANY;
+        return Some(Reason::TooMany);
     }
     if rules::still_held(held) {
-        return model::STILL_HELD;
+        return Some(Reason::StillHeld);
     }
-    NO_FAULT
+    None
 }
 
-// CLAIM where claim, else RELEASE, in a task with so many actions, after devices of these capacities.
-pub(crate) fn action_fault(
-    devices: usize,
-    capacities: &[u8; model::MAX_DEVICES],
-    tasks: usize,
-    length: usize,
-    held: &[bool; model::MAX_DEVICES],
-    claim: bool,
-    field: u32,
-) -> u8
-    requires { devices ≤ 16 }
-    ensures { result ≡ action_fault devices capacities.now tasks length held.now claim field }
+// CLAIM where claim, else RELEASE, in a task with so many actions.
+pub(crate) fn action_fault(scan: &Scan, length: usize, claim: bool, field: u32) -> Option<Reason>
+    requires { scan.now.devices ≤ 16 }
+    ensures { fault_number result
+        ≡ action_fault scan.now.devices scan.now.capacities scan.now.tasks length scan.now.held claim field }
 {
-    if rules::before_any_task(tasks) {
-        return model::OUT_OF_ORDER;
+    if rules::before_any_task(scan.tasks) {
+        return Some(Reason::OutOfOrder);
     }
-    if !rules::device_declared(field, devices) {
-        return units_fault(devices, capacities, length, held, claim, field);
+    if !rules::device_declared(field, scan.devices) {
+        return units_fault(scan, length, claim, field);
     }
     // One unit every device has, so 28 can't come.
     if rules::too_many_actions(length) {
-        return model::TOO_MANY;
+        return Some(Reason::TooMany);
     }
-    held_fault(held[field as usize], claim)
+    held_fault(scan.held[field as usize], claim)
 }
 
 // The same where the field isn't a declared device alone, which it must be in a RELEASE.
-fn units_fault(
-    devices: usize,
-    capacities: &[u8; model::MAX_DEVICES],
-    length: usize,
-    held: &[bool; model::MAX_DEVICES],
-    claim: bool,
-    field: u32,
-) -> u8
-    requires { devices ≤ 16 }
-    ensures { result ≡ units_fault devices capacities.now length held.now claim field }
+fn units_fault(scan: &Scan, length: usize, claim: bool, field: u32) -> Option<Reason>
+    requires { scan.now.devices ≤ 16 }
+    ensures { fault_number result ≡ units_fault scan.now.devices scan.now.capacities length scan.now.held claim field }
 {
     if !claim {
-        return model::FIELD_NOT_ALLOWED;
+        return Some(Reason::FieldNotAllowed);
     }
     let device = set_words::device_bits(field) as usize;
-    if !rules::claim_allowed(field, device, devices) {
-        return model::FIELD_NOT_ALLOWED;
+    if !rules::claim_allowed(field, device, scan.devices) {
+        return Some(Reason::FieldNotAllowed);
     }
     if rules::too_many_actions(length) {
-        return model::TOO_MANY;
+        return Some(Reason::TooMany);
     }
-    if rules::too_many_units(set_words::units(field), capacities[device]) {
-        return model::TOO_MANY_UNITS;
+    if rules::too_many_units(set_words::units(field), scan.capacities[device]) {
+        return Some(Reason::TooManyUnits);
     }
-    held_fault(held[device], true)
+    held_fault(scan.held[device], true)
 }
 
 // The last rule for an action, on a device that its task holds or not.
-fn held_fault(held: bool, claim: bool) -> u8
-    ensures { result ≡ held_fault held claim }
+fn held_fault(held: bool, claim: bool) -> Option<Reason>
+    ensures { fault_number result ≡ held_fault held claim }
 {
     if !rules::conflicts(held, claim) {
-        return NO_FAULT;
+        return None;
     }
     if claim {
-        return model::CLAIM_OF_HELD;
+        return Some(Reason::ClaimOfHeld);
     }
-    model::RELEASE_OF_NOT_HELD
+    Some(Reason::ReleaseOfNotHeld)
 }
 
 // END at index i.
-fn end_fault(tasks: usize, i: usize, held: &[bool; model::MAX_DEVICES], field: u32) -> u8
-    ensures { result ≡ end_fault tasks i held.now field }
+fn end_fault(
+    tasks: usize,
+    i: usize,
+    held: &[bool; model::MAX_DEVICES],
+    field: u32,
+) -> Option<Reason>
+    ensures { fault_number result ≡ end_fault tasks i held.now field }
 {
     if rules::before_any_task(tasks) {
-        return model::OUT_OF_ORDER;
+        return Some(Reason::OutOfOrder);
     }
     if !rules::counts_words(field, i) {
-        return model::FIELD_NOT_ALLOWED;
+        return Some(Reason::FieldNotAllowed);
     }
     if rules::still_held(held) {
-        return model::STILL_HELD;
+        return Some(Reason::StillHeld);
     }
-    NO_FAULT
-}
-
-// The last of so many tasks, 0 if there is none.
-fn last_of(tasks: usize) -> usize
-    ensures { result ≡ tasks - 1 }
-{
-    if tasks == 0 {
-        return 0;
-    }
-    tasks - 1
+    None
 }
 
 // The word at index i, where no END came.
-pub(crate) fn word_fault(s: Scan, i: usize, word: u32) -> u8
-    requires { (s.devices ≤ 16) × (s.tasks ≤ 8) }
-    ensures { result ≡ word_fault s i (kind_of word) (field_of word) }
+pub(crate) fn word_fault(scan: &Scan, i: usize, word: u32) -> Option<Reason>
+    requires { (scan.now.devices ≤ 16) × (scan.now.tasks ≤ 8) }
+    ensures { fault_number result ≡ word_fault scan.now i (kind_of word) (field_of word) }
 {
-    let capacities = s.capacities;
-    let held = s.held;
-    let lengths = s.lengths;
-    let length = lengths[last_of(s.tasks)] as usize;
-    let kind = set_words::kind(word);
+    // The actions of the task opened last.
+    let length = scan.lengths[scan.tasks.saturating_sub(1)] as usize;
     let field = set_words::field(word);
+    let Some(kind) = set_words::kind(word) else {
+        return Some(Reason::UnknownKind);
+    };
     match kind {
-        model::DEVICE => device_fault(s.devices, s.tasks, field),
-        model::TASK => task_fault(s.tasks, &held, field),
-        model::CLAIM => action_fault(s.devices, &capacities, s.tasks, length, &held, true, field),
-        model::RELEASE => action_fault(
-            s.devices,
-            &capacities,
-            s.tasks,
-            length,
-            &held,
-            false,
-            field,
-        ),
-        model::END => end_fault(s.tasks, i, &held, field),
-        _ => model::UNKNOWN_KIND,
+        Kind::Device => device_fault(scan.devices, scan.tasks, field),
+        Kind::Task => task_fault(scan.tasks, &scan.held, field),
+        Kind::Claim => action_fault(scan, length, true, field),
+        Kind::Release => action_fault(scan, length, false, field),
+        Kind::End => end_fault(scan.tasks, i, &scan.held, field),
+        Kind::ForbiddenBox
+        | Kind::UnsafeBox
+        | Kind::Side
+        | Kind::DeadState
+        | Kind::UnreachedState => Some(Reason::UnknownKind),
     }
 }

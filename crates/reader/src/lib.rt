@@ -9,112 +9,75 @@ mod scan;
 mod weights;
 mod words;
 
-ghost use Rattle.std.specs.Prelude.{◌≡◌, ◌<◌, ◌≤◌};
-ghost use Rattle.model.specs.Answer.{refused};
-ghost use Rattle.model.specs.Read.{nothing_read, read_by};
-ghost use Rattle.shape.specs.ShapeOf.{shape_of};
-ghost use Rattle.reader.specs.Answer.{answer};
+ghost use Rattle.std.specs.Prelude.{◌≡◌, ◌<◌, ◌≤◌, IfOk};
+ghost use Rattle.model.specs.Read.{read, read_by};
+ghost use Rattle.refusals.specs.Answers.{answer_of};
+ghost use Rattle.shape.specs.SetOf.{set_of};
+ghost use Rattle.reader.specs.Answer.{rules_of, answer};
 ghost use Rattle.reader.specs.Follow.{Closes};
 
+use refusals::{Reason, Refusal};
+pub use rules::Rules;
 use scan::Scan;
-use shape::Shape;
+use shape::{AcceptedSet, Shape};
+use weights::Weights;
 
-// The rules that a set is read by, which say whether some task must claim each device: the present rules do, the former ones didn't. They are one function's
-// switch, since a function for each cost every bid a copy of the reading.
-pub const PRESENT: bool = true;
-
-pub const FORMER: bool = false;
-
-#[derive(Clone, Copy)]
-pub enum Verdict {
-    Accepted,
-    Refused { number: u8, place: usize },
-}
-
-// The answer: the set's shape, and which of its devices some task claims. A refused set has those of the empty one.
+// What a set that was read has: its shape, and which of its devices some task claims.
 #[derive(Clone, Copy)]
 pub struct Reading {
-    pub verdict: Verdict,
     pub shape: Shape,
     pub claimed: [bool; model::MAX_DEVICES],
 }
 
-// The shape of a set with no device and no task, which has one state.
-fn no_shape() -> Shape
-    ensures { result ≡ shape_of nothing_read.set }
+// The answer after n words without a fault, the last of which is END, whose devices are as they should be: refusal 12, or what the set has.
+fn close(scan: &Scan, n: usize) -> Result<Reading, Refusal>
+    requires { (0 < n) × (scan.now.tasks ≤ 8) }
+    ensures { Closes scan.now n result }
 {
-    Shape {
-        devices: 0,
-        capacities: [0; model::MAX_DEVICES],
-        tasks: 0,
-        lengths: [0; model::MAX_TASKS],
-        starts: [0; model::MAX_TASKS],
-        weights: [0; model::MAX_TASKS],
-        grid: 1,
-    }
-}
-
-// A refusal at a place.
-fn refuse(number: u8, place: usize) -> Reading
-    ensures { result ≡ answer (refused number place) }
-{
-    let shape = no_shape();
-    let verdict = Verdict::Refused {
-        number: number,
-        place: place,
-    };
-    Reading {
-        verdict: verdict,
-        shape: shape,
-        claimed: [false; model::MAX_DEVICES],
-    }
-}
-
-// The answer after n words without a fault, the last of which is END, whose devices are as they should be: refusal 12, or the set's shape.
-fn close(s: Scan, n: usize) -> Reading
-    requires { (0 < n) × (s.tasks ≤ 8) }
-    ensures { Closes s n result }
-{
-    let capacities = s.capacities;
-    let lengths = s.lengths;
-    let starts = s.starts;
-    let claimed = s.claimed;
-    let weighed = weights::weigh(s.tasks, lengths);
-    let grid = weighed.grid;
-    let weights = weighed.of;
+    let Scan {
+        devices,
+        capacities,
+        tasks,
+        lengths,
+        starts,
+        held: _,
+        claimed,
+    } = *scan;
+    let Weights { grid, of: weights } = weights::weigh(tasks, &lengths);
     if weights::MAX_GRID < grid {
-        return refuse(model::GRID_TOO_LARGE, n - 1);
+        return Err(Reason::GridTooLarge.at(n - 1));
     }
-    let verdict = Verdict::Accepted;
     let shape = Shape {
-        devices: s.devices,
-        capacities: capacities,
-        tasks: s.tasks,
-        lengths: lengths,
-        starts: starts,
-        weights: weights,
-        grid: grid,
+        devices,
+        capacities,
+        tasks,
+        lengths,
+        starts,
+        weights,
+        grid,
     };
-    Reading {
-        verdict: verdict,
-        shape: shape,
-        claimed: claimed,
-    }
+    Ok(Reading { shape, claimed })
 }
 
-// The set that the words declare, or the refusal, by these rules: every slice is taken.
-pub fn read(words: &[u32], rules: bool) -> Reading
-    ensures { result ≡ answer (read_by rules words.now) }
+// What the set that the words declare has, or the refusal, by these rules: every slice is taken.
+pub fn read(words: &[u32], rules: Rules) -> Result<Reading, Refusal>
+    ensures { answer_of (λ r. r) result ≡ answer (read_by (rules_of rules) words.now) }
 {
-    let all = words::read_words(words);
-    if faults::NO_FAULT < all.fault {
-        return refuse(all.fault, all.place);
+    let scan = words::read_words(words)?;
+    if let Some(device) = rules::unclaimed_device(rules, scan.devices, &scan.claimed) {
+        return Err(Reason::UnclaimedDevice.at(device));
     }
-    let scan = all.scan;
-    let claimed = scan.claimed;
-    let unclaimed = rules::unclaimed_device(rules, scan.devices, &claimed);
-    if unclaimed < scan.devices {
-        return refuse(model::UNCLAIMED_DEVICE, unclaimed);
-    }
-    close(scan, words.len())
+    close(&scan, words.len())
+}
+
+// The set that the words declare, or the refusal, by the present rules: the words are lent to the set.
+pub fn accept<'a>(words: &'a [u32]) -> Result<AcceptedSet<'a>, Refusal>
+    ensures reads { answer_of set_of result ≡ read words.now }
+    ensures lends { IfOk result (λ s. s.words ≡ words.entry) }
+{
+    let reading = read(words, Rules::Present)?;
+    Ok(AcceptedSet {
+        words,
+        shape: reading.shape,
+    })
 }

@@ -1,7 +1,17 @@
-// The rules that a set's words keep, one function each, with the refusal's number. The faults ask them in order.
-ghost use Rattle.std.specs.Prelude.{◌≡◌, false, not, cond, ◌&&◌, eqb, ltb, leb, get_or, ◌≤◌};
+// The rules that a set keeps, one function each, with the refusal's number. The faults ask those of its words in order.
+ghost use Rattle.std.specs.Prelude.{◌≡◌, false, not, cond, ◌&&◌, eqb, ltb, leb, get_or, ◌≤◌, None};
 ghost use Rattle.std.specs.Bool.{beq};
-ghost use Rattle.model.specs.Below.{any, lowest};
+ghost use Rattle.model.specs.Below.{any};
+ghost use Rattle.reader.specs.Answer.{rules_of};
+ghost use Rattle.reader.specs.Follow.{lowest_found};
+
+// The rules that a set is read by, which say whether some task must claim each device: the present rules do, the former ones didn't. They are one function's
+// switch, since a function for each cost every bid a copy of the reading.
+#[derive(Clone, Copy, Debug, PartialEq, Eq)]
+pub enum Rules {
+    Present,
+    Former,
+}
 
 // 5: a DEVICE after a TASK.
 pub(crate) fn after_a_task(tasks: usize) -> bool
@@ -91,42 +101,39 @@ pub(crate) fn conflicts(held: bool, claim: bool) -> bool
 pub(crate) fn still_held(held: &[bool; model::MAX_DEVICES]) -> bool
     ensures { result ≡ any 16 (λ d. get_or held.now d false) }
 {
-    let mut i = 0;
-    while i < model::MAX_DEVICES {
-        if held[i] {
+    // `held.contains(&true)` was slower: this loop is one comparison of all sixteen.
+    for d in 0..model::MAX_DEVICES {
+        if held[d] {
             return true;
         }
-        i += 1;
     }
     false
 }
 
-// 24: the lowest of so many devices that isn't claimed, where claims are asked for; else their number.
+// 24: the lowest of so many devices that isn't claimed, where the rules ask for claims.
 pub(crate) fn unclaimed_device(
-    asked: bool,
+    rules: Rules,
     devices: usize,
     claimed: &[bool; model::MAX_DEVICES],
-) -> usize
+) -> Option<usize>
     requires { devices ≤ 16 }
-    ensures { result ≡ cond asked (lowest devices (λ d. not (get_or claimed.now d false))) devices }
+    ensures { result ≡ cond (rules_of rules) (lowest_found devices (λ d. not (get_or claimed.now d false))) None }
 {
-    if !asked {
-        return devices;
+    match rules {
+        Rules::Present => first_unclaimed(devices, claimed),
+        Rules::Former => None,
     }
-    first_unclaimed(devices, claimed)
 }
 
-// The lowest of so many devices that isn't claimed, or their number if each is.
-fn first_unclaimed(devices: usize, claimed: &[bool; model::MAX_DEVICES]) -> usize
+// The lowest of so many devices that isn't claimed.
+fn first_unclaimed(devices: usize, claimed: &[bool; model::MAX_DEVICES]) -> Option<usize>
     requires { devices ≤ 16 }
-    ensures { result ≡ lowest devices (λ d. not (get_or claimed.now d false)) }
+    ensures { result ≡ lowest_found devices (λ d. not (get_or claimed.now d false)) }
 {
-    let mut d = 0;
-    while d < devices {
+    for d in 0..devices {
         if !claimed[d] {
-            return d;
+            return Some(d);
         }
-        d += 1;
     }
-    d
+    None
 }

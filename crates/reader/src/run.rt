@@ -1,159 +1,91 @@
-// Words in a row that have no fault: all but END, in a set without one. They are noted in arrays of their own, so that no word copies what was read before it.
+// Words in a row that have no fault: all but END, in a set without one. They are noted in a scan in its place, so that no word copies what was read before it.
 ghost use Rattle.std.specs.Prelude.{◌≡◌, ◌-◌, ◌≤◌};
 ghost use Rattle.model.specs.Set.{at};
 ghost use Rattle.model.specs.Read.{nothing_read};
-ghost use Rattle.reader.specs.declared.scan.Scan.{Scan};
-ghost use Rattle.reader.specs.Follow.{scan_of, Reached, scanned, no_tasks, counted, Opened, NoDevice, NoTask, NoAction, Stops};
+ghost use Rattle.reader.specs.Follow.{scan_of, Reached, counted, Opened, NoDevice, NoTask, NoAction, Stops};
 
 use crate::faults;
 use crate::scan::Scan;
+use set_words::Kind;
 
-// What was read in a row: the scan after it, and the index of the next word.
-#[derive(Clone, Copy)]
-pub(crate) struct Run {
-    pub(crate) index: usize,
-    pub(crate) scan: Scan,
-}
-
-// The tasks read in a row: how many, and the index of the next word.
-#[derive(Clone, Copy)]
-pub(crate) struct Tasks {
-    pub(crate) count: usize,
-    pub(crate) index: usize,
-}
-
-// The DEVICEs that the words start with, up to a word that is none or has a fault. Their capacities are noted; the answer is how many they are.
-fn read_devices(words: &[u32], capacities: &mut [u8; model::MAX_DEVICES]) -> usize
-    requires { Reached words.now (no_tasks 0 capacities.old) 0 }
-    ensures { Reached words.now (no_tasks result capacities.new) result × NoDevice words.now result 0 result }
+// Notes the DEVICEs that the words start with, up to a word that is none or has a fault.
+fn read_devices(words: &[u32], scan: &mut Scan)
+    requires { Reached words.now scan.old 0 × (scan.old.devices ≡ 0) × (scan.old.tasks ≡ 0) }
+    ensures { Reached words.now scan.new scan.new.devices × (scan.new.tasks ≡ 0) × NoDevice words.now scan.new.devices 0 scan.new.devices }
 {
-    let mut i = 0;
-    while i < words.len() {
+    for i in 0..words.len() {
         let word = words[i];
-        if set_words::kind(word) != model::DEVICE {
-            return i;
+        if !set_words::has_kind(word, Kind::Device) {
+            return;
         }
         let capacity = set_words::field(word);
-        if faults::NO_FAULT < faults::device_fault(i, 0, capacity) {
-            return i;
+        if faults::device_fault(i, 0, capacity).is_some() {
+            return;
         }
-        capacities[i] = capacity as u8;
-        i += 1;
+        scan.capacities[i] = capacity as u8;
+        scan.devices = i + 1;
     }
-    i
 }
 
-// CLAIMs and RELEASEs of the task just opened, from an index up to a word that is neither or has a fault. They are noted in `held` and `claimed`; the answer is
-// the index after them.
-fn read_actions(
-    words: &[u32],
-    from: usize,
-    devices: usize,
-    capacities: &[u8; model::MAX_DEVICES],
-    tasks: usize,
-    held: &mut [bool; model::MAX_DEVICES],
-    claimed: &mut [bool; model::MAX_DEVICES],
-) -> usize
-    requires { (s : Scan) × Opened words.now s devices capacities.now tasks held.old claimed.old from }
-    ensures { (from ≤ result) × (result - from ≤ 255) × NoAction words.now devices capacities.now tasks (result - from) held.new result
-        × ((s : Scan) → Opened words.now s devices capacities.now tasks held.old claimed.old from
-        → Reached words.now (counted s (result - from) held.new claimed.new) result) }
+// Notes the CLAIMs and RELEASEs of the task just opened, from an index up to a word that is neither or has a fault: what the task then holds, and what is
+// claimed. The answer is the index after them, from which the caller counts them.
+fn read_actions(words: &[u32], from: usize, scan: &mut Scan) -> usize
+    requires { Opened words.now scan.old from }
+    ensures { (from ≤ result) × (result - from ≤ 255)
+        × (scan.new ≡ record scan.old { held = scan.new.held; claimed = scan.new.claimed })
+        × NoAction words.now scan.new.devices scan.new.capacities scan.new.tasks (result - from) scan.new.held result
+        × Reached words.now (counted scan.new (result - from)) result }
 {
-    let mut i = from;
-    while i < words.len() {
+    for i in from..words.len() {
         let word = words[i];
-        let kind = set_words::kind(word);
-        if kind < model::CLAIM || model::RELEASE < kind {
+        let claim = set_words::has_kind(word, Kind::Claim);
+        if !claim && !set_words::has_kind(word, Kind::Release) {
             return i;
         }
-        let claim = kind == model::CLAIM;
         let field = set_words::field(word);
-        if faults::NO_FAULT
-            < faults::action_fault(devices, capacities, tasks, i - from, held, claim, field)
-        {
+        if faults::action_fault(scan, i - from, claim, field).is_some() {
             return i;
         }
         let device = set_words::device_bits(field) as usize;
-        held[device] = claim;
+        scan.held[device] = claim;
         // What a RELEASE without a fault names was claimed before.
-        claimed[device] = true;
-        i += 1;
+        scan.claimed[device] = true;
+    }
+    words.len()
+}
+
+// Notes the tasks after the devices, each with its actions, up to a word that is none of theirs or has a fault. The answer is the index of that word.
+fn read_tasks(words: &[u32], scan: &mut Scan) -> usize
+    requires { Reached words.now scan.old scan.old.devices × (scan.old.tasks ≡ 0) }
+    ensures { (scan.new.devices ≡ scan.old.devices) × (scan.new.tasks ≡ 0 → result ≡ scan.old.devices)
+        × NoTask words.now scan.new.tasks scan.new.held result
+        × NoAction words.now scan.new.devices scan.new.capacities scan.new.tasks (at scan.new.lengths (scan.new.tasks - 1)) scan.new.held result
+        × Reached words.now scan.new result }
+{
+    let mut i = scan.devices;
+    while i < words.len() {
+        let word = words[i];
+        if !set_words::has_kind(word, Kind::Task) {
+            break;
+        }
+        if faults::task_fault(scan.tasks, &scan.held, set_words::field(word)).is_some() {
+            break;
+        }
+        let task = scan.tasks;
+        let first = i + 1;
+        scan.starts[task] = first;
+        scan.tasks = task + 1;
+        i = read_actions(words, first, scan);
+        scan.lengths[task] = (i - first) as u8;
     }
     i
 }
 
-// The tasks from an index on, each with its actions, up to a word that is none of theirs or has a fault. Their action counts, where their actions start, what
-// the last one holds and what any of them claims are noted in arrays of zeros.
-fn read_tasks(
-    words: &[u32],
-    from: usize,
-    devices: usize,
-    capacities: &[u8; model::MAX_DEVICES],
-    lengths: &mut [u8; model::MAX_TASKS],
-    starts: &mut [usize; model::MAX_TASKS],
-    held: &mut [bool; model::MAX_DEVICES],
-    claimed: &mut [bool; model::MAX_DEVICES],
-) -> Tasks
-    requires { Reached words.now (scanned devices capacities.now 0 lengths.old starts.old held.old claimed.old) from }
-    ensures { (result.count ≡ 0 → result.index ≡ from) × NoTask words.now result.count held.new result.index
-        × NoAction words.now devices capacities.now result.count (at lengths.new (result.count - 1)) held.new result.index
-        × Reached words.now
-        (scanned devices capacities.now result.count lengths.new starts.new held.new claimed.new) result.index }
+// Notes devices and tasks, up to END or a fault. The answer is the index of the word there.
+pub(crate) fn read_runs(words: &[u32], scan: &mut Scan) -> usize
+    requires { Reached words.now scan.old 0 × (scan.old ≡ scan_of nothing_read) }
+    ensures { Reached words.now scan.new result × Stops words.now scan.new result }
 {
-    let mut tasks = 0;
-    let mut i = from;
-    while i < words.len() {
-        let word = words[i];
-        if set_words::kind(word) != model::TASK {
-            break;
-        }
-        if faults::NO_FAULT < faults::task_fault(tasks, held, set_words::field(word)) {
-            break;
-        }
-        let first = i + 1;
-        starts[tasks] = first;
-        i = read_actions(words, first, devices, capacities, tasks + 1, held, claimed);
-        lengths[tasks] = (i - first) as u8;
-        tasks += 1;
-    }
-    Tasks {
-        count: tasks,
-        index: i,
-    }
-}
-
-// Devices and tasks, up to END or a fault.
-pub(crate) fn read_runs(words: &[u32]) -> Run
-    requires { Reached words.now (scan_of nothing_read) 0 }
-    ensures { Reached words.now result.scan result.index × Stops words.now result.scan result.index }
-{
-    let mut capacities = [0u8; model::MAX_DEVICES];
-    let mut lengths = [0u8; model::MAX_TASKS];
-    let mut starts = [0usize; model::MAX_TASKS];
-    let mut held = [false; model::MAX_DEVICES];
-    let mut claimed = [false; model::MAX_DEVICES];
-    let devices = read_devices(words, &mut capacities);
-    let tasks = read_tasks(
-        words,
-        devices,
-        devices,
-        &capacities,
-        &mut lengths,
-        &mut starts,
-        &mut held,
-        &mut claimed,
-    );
-    let scan = Scan {
-        devices: devices,
-        capacities: capacities,
-        tasks: tasks.count,
-        lengths: lengths,
-        starts: starts,
-        held: held,
-        claimed: claimed,
-    };
-    Run {
-        index: tasks.index,
-        scan: scan,
-    }
+    read_devices(words, scan);
+    read_tasks(words, scan)
 }

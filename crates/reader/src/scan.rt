@@ -4,7 +4,7 @@ ghost use Rattle.model.specs.Read.{nothing_read};
 ghost use Rattle.reader.specs.Follow.{scan_of};
 
 // The devices and tasks of the words so far; entries of the arrays past the counts are 0. `held` says what the last task holds, `claimed` which devices some
-// task has claimed.
+// task has claimed. The limits of the counts are no ghost field, since `scan_of` of specs/Follow is a scan of any that the model has.
 #[derive(Clone, Copy)]
 pub(crate) struct Scan {
     pub(crate) devices: usize,

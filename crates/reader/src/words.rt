@@ -4,55 +4,30 @@ ghost use Rattle.reader.specs.Follow.{ReadsAll};
 
 use crate::scan::Scan;
 use crate::{faults, run, scan};
+use refusals::{Reason, Refusal};
 
-// What the words come to: NO_FAULT and the scan of a set that its END closed, or the first fault's number and place.
-#[derive(Clone, Copy)]
-pub(crate) struct Words {
-    pub(crate) fault: u8,
-    pub(crate) place: usize,
-    pub(crate) scan: Scan,
-}
-
-// The first fault; the scan is not looked at.
-fn stop(fault: u8, place: usize) -> Words
-    ensures { (result.fault ≡ fault) × (result.place ≡ place) }
-{
-    let scan = scan::nothing();
-    Words {
-        fault: fault,
-        place: place,
-        scan: scan,
-    }
-}
-
-// Reads all words.
-pub(crate) fn read_words(words: &[u32]) -> Words
+// Reads all words: the scan of a set that its END closed, or the first fault.
+pub(crate) fn read_words(words: &[u32]) -> Result<Scan, Refusal>
     ensures { ReadsAll words.now result }
 {
     let n = words.len();
     if n == 0 {
-        return stop(model::NO_WORDS, 0);
+        return Err(Reason::NoWords.at(0));
     }
     if model::MAX_WORDS < n {
-        return stop(model::TOO_MANY_WORDS, model::MAX_WORDS);
+        return Err(Reason::TooManyWords.at(model::MAX_WORDS));
     }
-    let run = run::read_runs(words);
-    let scan = run.scan;
-    let i = run.index;
+    let mut scan = scan::nothing();
+    let i = run::read_runs(words, &mut scan);
     if n <= i {
-        return stop(model::NO_END, n);
+        return Err(Reason::NoEnd.at(n));
     }
-    let fault = faults::word_fault(scan, i, words[i]);
-    if faults::NO_FAULT < fault {
-        return stop(fault, i);
+    if let Some(reason) = faults::word_fault(&scan, i, words[i]) {
+        return Err(reason.at(i));
     }
     // Only END has no fault where a run stops.
     if i + 1 < n {
-        return stop(model::WORD_AFTER_END, i + 1);
+        return Err(Reason::WordAfterEnd.at(i + 1));
     }
-    Words {
-        fault: faults::NO_FAULT,
-        place: n,
-        scan: scan,
-    }
+    Ok(scan)
 }

@@ -9,13 +9,7 @@ ghost use Rattle.model.specs.Broker.{in_window};
 pub(crate) fn total(counts: [u8; model::MAX_TASKS]) -> u32
     ensures { result ≡ sum counts }
 {
-    let mut sum: u32 = 0;
-    let mut t = 0;
-    while t < model::MAX_TASKS {
-        sum = sum + counts[t] as u32;
-        t += 1;
-    }
-    sum
+    counts.iter().map(|count| *count as u32).sum()
 }
 
 // The counts after one more grant to a task: all 0 once the window's grants are used up.
@@ -28,8 +22,7 @@ pub(crate) fn counted(
     ensures { result ≡ in_window window (slice_set counts task (at counts task + 1)) }
 {
     let mut next = counts;
-    let count = counts[task];
-    next[task] = count + 1;
+    next[task] += 1;
     if window <= total(next) {
         return [0; model::MAX_TASKS];
     }
@@ -41,12 +34,10 @@ pub(crate) fn some_from(counts: [u8; model::MAX_TASKS], first: usize) -> bool
     requires { first ≤ 8 }
     ensures { result ≡ any 8 (λ t. nat_le first t && nat_lt 0 (at counts t)) }
 {
-    let mut t = first;
-    while t < model::MAX_TASKS {
+    for t in first..model::MAX_TASKS {
         if 0 < counts[t] {
             return true;
         }
-        t += 1;
     }
     false
 }

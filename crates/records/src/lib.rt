@@ -24,24 +24,13 @@ pub struct Record {
 }
 
 impl Record {
-    pub const TASKS: usize = model::MAX_TASKS;
-
-    // The map's bytes.
-    pub const OPEN: u8 = model::OPEN;
-
-    pub const FORBIDDEN: u8 = model::FORBIDDEN;
-
-    pub const UNSAFE: u8 = model::UNSAFE;
-
-    pub const DEAD: u8 = model::DEAD;
-
     pub fn fresh() -> Self
         ensures { record_of result ≡ fresh }
     {
         Self {
-            positions: [0; Self::TASKS],
+            positions: [0; model::MAX_TASKS],
             grants: 0,
-            counts: [0; Self::TASKS],
+            counts: [0; model::MAX_TASKS],
         }
     }
 
@@ -50,46 +39,40 @@ impl Record {
         requires { (task < 8) × (at self.positions task < 255) × (at self.counts task < 255) }
         ensures { record_of result ≡ grant window (record_of self) task }
     {
-        let mut next = self;
-        let position = self.positions[task];
-        next.positions[task] = position + 1;
-        next.grants = std::num::wrapping_add_u32(self.grants, 1);
-        let counts = self.counts;
-        next.counts = counts::counted(counts, task, window);
-        next
+        let mut positions = self.positions;
+        positions[task] += 1;
+        Self {
+            positions,
+            grants: self.grants.wrapping_add(1),
+            counts: counts::counted(self.counts, task, window),
+        }
     }
 
     // How many grants the present window has had.
     pub fn used(self) -> u32
         ensures { result ≡ sum self.counts }
     {
-        let counts = self.counts;
-        counts::total(counts)
+        counts::total(self.counts)
     }
 
     // The record after an again at the end: every task starts anew, the counts are cleared, and the grant number stays.
     pub fn restarted(self) -> Self
         ensures { record_of result ≡ restart (record_of self) }
     {
-        let mut next = self;
-        next.positions = [0; Self::TASKS];
-        next.counts = [0; Self::TASKS];
+        let mut next = Self::fresh();
+        next.grants = self.grants;
         next
     }
 }
 
 // Whether some number is over the other array's.
-fn some_above(numbers: [u8; Record::TASKS], limits: [u8; Record::TASKS]) -> bool
+fn some_above(numbers: [u8; model::MAX_TASKS], limits: [u8; model::MAX_TASKS]) -> bool
     ensures { result ≡ any 8 (λ t. ltb (at limits t) (at numbers t)) }
 {
-    let mut t = 0;
-    while t < Record::TASKS {
-        if limits[t] < numbers[t] {
-            return true;
-        }
-        t += 1;
-    }
-    false
+    numbers
+        .iter()
+        .zip(&limits)
+        .any(|(number, limit)| limit < number)
 }
 
 // Whether the map has fewer bytes than there are states.
@@ -103,9 +86,7 @@ pub fn too_short(map: &[u8], shape: Shape) -> bool
 fn misplaced(rec: Record, shape: Shape) -> bool
     ensures { (words : List ℕ) (s : Set) → Declares words shape s → result ≡ misplaced s (record_of rec) }
 {
-    let positions = rec.positions;
-    let lengths = shape.lengths;
-    some_above(positions, lengths)
+    some_above(rec.positions, shape.lengths)
 }
 
 // Whether an absent task has a count.
@@ -113,8 +94,7 @@ fn miscounted(rec: Record, shape: Shape) -> bool
     requires { (words : List ℕ) × (s : Set) × Declares words shape s }
     ensures { (words : List ℕ) (s : Set) → Declares words shape s → result ≡ miscounted s (record_of rec) }
 {
-    let counts = rec.counts;
-    counts::some_from(counts, shape.tasks)
+    counts::some_from(rec.counts, shape.tasks)
 }
 
 // Whether the record doesn't fit the set.
@@ -129,9 +109,7 @@ pub fn unfit(rec: Record, shape: Shape) -> bool
 pub fn at_end(rec: Record, shape: Shape) -> bool
     ensures { (words : List ℕ) (s : Set) → Declares words shape s → result ≡ is_end (lengths_of s) (state_in s (record_of rec)) }
 {
-    let positions = rec.positions;
-    let lengths = shape.lengths;
-    !some_above(lengths, positions)
+    !some_above(shape.lengths, rec.positions)
 }
 
 // The rank of the record's state.
@@ -143,10 +121,8 @@ pub fn rank_of(rec: Record, shape: Shape) -> usize
     let weights = shape.weights;
     let positions = rec.positions;
     let mut rank: usize = 0;
-    let mut t = 0;
-    while t < tasks {
-        rank = rank + positions[t] as usize * weights[t];
-        t += 1;
+    for t in 0..tasks {
+        rank += positions[t] as usize * weights[t];
     }
     rank
 }

@@ -1,19 +1,36 @@
--- Where the task that the search found takes the code.
+-- What the search for a step found, and where the task found takes the code.
 use Prim.Native.Nat.{ℕ, ◌+◌, ◌-◌, ◌<◌, ◌≤◌}
 use native.Mathlib.Omega.{arith}
 use mathlib.Core.Path.{◌≡◌, sym, ap, ◌∙◌}
-use mathlib.Core.Bool.{true}
+use mathlib.Core.Bool.{true, cond}
 use mathlib.Core.List.{List}
 use lib.ListN.{length, take, set}
-use borrow.Author.Tests.{ltb-true}
+use lib.Dec.{ltb}
+use borrow.Author.Tests.{ltb-true, ltb-false}
+use Rattle.std.specs.Prelude.{Option, Some, None}
 use Rattle.model.specs.Set.{at}
 use Rattle.model.specs.State.{State, unfinished, sum}
 use Rattle.model.specs.Route.{first_step}
+use Rattle.model.proofs.Bools.{by_bool}
 use Rattle.model.proofs.Ranks.{weight-pos}
 use Rattle.model.proofs.Sums.{sum-next, sum_lt}
 use Rattle.route.specs.Walks.{OnGrid}
 use Rattle.route.proofs.Standing.{tasks-counted, unfinished-is, next-is}
 use Rattle.route.proofs.Walking.{first-unfinished, Along, step-along}
+
+-- the first of n tasks, if there is one
+abbrev Found : Option ℕ → ℕ → ℕ → Type 0
+Found r f n = r ≡ cond (ltb f n) (Some f) None
+
+pub is-found : (t f n : ℕ) → Found (Some t) f n → (t ≡ f) × (t < n)
+is-found t f n e =
+    by_bool (ltb f n)
+    (λ l. let same : t ≡ f = (let s : Some t ≡ Some f = rw l at e in cc) in (same, rw same (ltb-true f n l)))
+    (λ l. let no : Some t ≡ None = rw l at e in absurd cc)
+
+pub none-found : (f n : ℕ) → Found None f n → n ≤ f
+none-found f n e =
+    by_bool (ltb f n) (λ l. let no : None ≡ Some f = rw l at e in absurd cc) (ltb-false f n)
 
 module _ (map : List ℕ) (n : ℕ) (lengths weights positions : List ℕ) (r : ℕ) (s : OnGrid map n lengths weights positions r) (t : ℕ)
     (found : t ≡ first_step (take n lengths) map (take n positions)) (h : t < n) where

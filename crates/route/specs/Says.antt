@@ -1,15 +1,14 @@
 -- What the code's answer says in the terms of SCOPE.md, "Route".
-use Rattle.std.specs.Prelude.{ℕ, List}
-use Rattle.model.specs.Answer.{Answer, given, refused}
+use Rattle.std.specs.Prelude.{ℕ, List, Result}
+use Rattle.model.specs.Answer.{Answer}
 use Rattle.model.specs.Route.{Routed}
-use Rattle.route.specs.declared.RouteAnswer.{RouteAnswer}
-use Rattle.route.specs.declared.RouteAnswer.TheVariants.{Steps, Refused}
+use Rattle.refusals.specs.declared.Refusal.{Refusal}
+use Rattle.refusals.specs.Answers.{answer_of}
 
--- each case, with the route's length, and a refusal's number and place
-unfoldable pub answer_of : RouteAnswer → Answer ℕ
-answer_of (Steps count) = given count
-answer_of (Refused number place) = refused number place
+-- the route's length
+abbrev pub length_of : Result ℕ Refusal → Answer ℕ
+length_of = answer_of (λ count. count)
 
 -- the answer beside the slice afterwards
-abbrev pub routed_of : RouteAnswer → List ℕ → Routed
-routed_of r slice = record { answer = answer_of r; route = slice }
+abbrev pub routed_of : Result ℕ Refusal → List ℕ → Routed
+routed_of r slice = record { answer = length_of r; route = slice }

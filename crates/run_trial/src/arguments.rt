@@ -1,6 +1,5 @@
 // The arguments that are numbers: rounds, share and window.
 use broker::Settings;
-use program::Number;
 use std::env::Env;
 
 // How many arguments there are, the program's own name among them.
@@ -12,21 +11,18 @@ const SHARE: usize = 3;
 
 const WINDOW: usize = 4;
 
-// The largest number of 16 bits.
-const MAX_ROUNDS: u32 = 0xFFFF;
-
 // Room for a number; a longer argument is none.
 const LONGEST: usize = 16;
 
+// The trial that is asked for, besides its order.
 #[derive(Clone, Copy)]
-pub enum Wanted {
-    Trial { rounds: u16, settings: Settings },
-    // An argument can't be taken, which was said.
-    Nothing,
+pub struct Wanted {
+    pub rounds: u16,
+    pub settings: Settings,
 }
 
 pub fn complain(rt: &impl Eprint, line: &str) {
-    let _ = rt.eprint(line);
+    let _ = rt.eprintln(line);
 }
 
 // Whether there are as many as a trial takes, and no more.
@@ -34,45 +30,32 @@ pub fn are_complete(rt: HostRuntime) -> bool {
     program::is_given(rt, COUNT - 1) && !program::is_given(rt, COUNT)
 }
 
-// Settings are taken as they are: which of them are allowed is the trial's matter.
-pub fn read_wanted(rt: HostRuntime) -> Wanted {
-    let given = number_at(rt, ROUNDS);
-    let Number::Is(rounds) = given else {
-        return without_rounds(&rt);
+// Settings are taken as they are: which of them are allowed is the trial's matter. The first argument that can't be taken is said.
+pub fn read_wanted(rt: HostRuntime) -> Option<Wanted> {
+    let Some(rounds) = rounds_at(rt, ROUNDS) else {
+        complain(&rt, "run_trial: ROUNDS must be a number from 0 to 65535");
+        return None;
     };
-    if MAX_ROUNDS < rounds {
-        return without_rounds(&rt);
-    }
-    let given = number_at(rt, SHARE);
-    let Number::Is(share) = given else {
-        return without(&rt, "run_trial: SHARE must be a number from 1 to 255\n");
+    let Some(share) = number_at(rt, SHARE) else {
+        complain(&rt, "run_trial: SHARE must be a number from 1 to 255");
+        return None;
     };
-    let given = number_at(rt, WINDOW);
-    let Number::Is(window) = given else {
-        return without(&rt, "run_trial: WINDOW must be a number from 1 to 255\n");
+    let Some(window) = number_at(rt, WINDOW) else {
+        complain(&rt, "run_trial: WINDOW must be a number from 1 to 255");
+        return None;
     };
-    Wanted::Trial {
-        rounds: rounds as u16,
-        settings: Settings {
-            share: share,
-            window: window,
-        },
-    }
+    Some(Wanted {
+        rounds,
+        settings: Settings { share, window },
+    })
 }
 
-fn without_rounds(rt: &impl Eprint) -> Wanted {
-    without(rt, "run_trial: ROUNDS must be a number from 0 to 65535\n")
+fn rounds_at(rt: HostRuntime, i: usize) -> Option<u16> {
+    u16::try_from(number_at(rt, i)?).ok()
 }
 
-fn without(rt: &impl Eprint, line: &str) -> Wanted {
-    complain(rt, line);
-    Wanted::Nothing
-}
-
-fn number_at(rt: HostRuntime, i: usize) -> Number {
+fn number_at(rt: HostRuntime, i: usize) -> Option<u32> {
     let mut word = [0u8; LONGEST];
-    let Ok(n) = rt.arg(i, &mut word) else {
-        return Number::Other;
-    };
+    let n = rt.arg(i, &mut word).ok()?;
     program::read_number(&word[..n])
 }

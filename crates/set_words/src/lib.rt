@@ -1,25 +1,37 @@
 // The words of a set, made and taken apart: no other code knows their bits.
 #![tactic(auto)]
 
-ghost use Rattle.std.specs.Prelude.{◌≡◌, suc, ◌<◌};
+mod kinds;
+
+ghost use Rattle.std.specs.Prelude.{◌≡◌, suc, ◌<◌, eqb};
 ghost use Rattle.model.specs.Set.{device_of, is_claim};
 ghost use Rattle.model.specs.Layout.{word, kind_of, field_of, device_bits, extra_bits, DEVICE, END, action_word, action_of};
 ghost use Rattle.model.specs.Clean.{renamed};
+ghost use Rattle.set_words.specs.Kinds.{kind_named, number_of};
+
+pub use kinds::Kind;
 
 // Words with field 0.
-const DEVICE_WORD: u32 = model::DEVICE * model::FIELDS;
+const DEVICE_WORD: u32 = Kind::Device as u32 * model::FIELDS;
 
-const CLAIM_WORD: u32 = model::CLAIM * model::FIELDS;
+const CLAIM_WORD: u32 = Kind::Claim as u32 * model::FIELDS;
 
-const RELEASE_WORD: u32 = model::RELEASE * model::FIELDS;
+const RELEASE_WORD: u32 = Kind::Release as u32 * model::FIELDS;
 
-const END_WORD: u32 = model::END * model::FIELDS;
+const END_WORD: u32 = Kind::End as u32 * model::FIELDS;
 
-// The kind of a word.
-pub fn kind(word: u32) -> u32
-    ensures { result ≡ kind_of word }
+// The kind of a word, None where the number that stands for it is no kind's.
+pub fn kind(word: u32) -> Option<Kind>
+    ensures { result ≡ kind_named (kind_of word) }
 {
-    word / model::FIELDS
+    Kind::named(word / model::FIELDS)
+}
+
+// Whether a word is of a kind.
+pub fn has_kind(word: u32, kind: Kind) -> bool
+    ensures { result ≡ eqb (kind_of word) (number_of kind) }
+{
+    word / model::FIELDS == kind.number()
 }
 
 // The field of a word.
@@ -33,7 +45,7 @@ pub fn field(word: u32) -> u32
 pub fn is_claim(word: u32) -> bool
     ensures { result ≡ is_claim (action_of word) }
 {
-    kind(word) == model::CLAIM
+    has_kind(word, Kind::Claim)
 }
 
 // The device in a CLAIM's field, beside its units.

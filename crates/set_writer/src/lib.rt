@@ -1,5 +1,6 @@
 // The words of a set, written into a lent slice one part after the other: DEVICEs, words of another set as they are, tasks with other numbers for the devices,
 // END. For the calls that make a set out of sets; each part is written from an index on, and answers the index after it.
+// The slice and the index stay two parameters: memory is fixed, so the slice is the caller's, and a struct that held it would owe clauses about the reference at each call.
 #![tactic(auto)]
 
 ghost use Rattle.std.specs.Prelude.{◌≡◌, true, false, cond, [], ◌∷◌, map, ◌+◌, ◌<◌, ◌≤◌, length, get_or, take, set};
@@ -9,6 +10,8 @@ ghost use Rattle.model.specs.Set.{at};
 ghost use Rattle.model.specs.Layout.{word, DEVICE, END};
 ghost use Rattle.model.specs.Clean.{kept_from};
 ghost use Rattle.set_writer.specs.Renamed.{renamed_word, Named};
+
+use set_words::Kind;
 
 // The DEVICEs of those of the first so many devices that are kept, in their order.
 pub fn write_devices(
@@ -26,10 +29,8 @@ pub fn write_devices(
         ≡ write out.old to (map (word DEVICE) (kept_from (λ d. get_or kept.now d false) 0 (take devices capacities.now))) }
 {
     let mut at = to;
-    let mut d = 0;
-    while d < devices {
+    for d in 0..devices {
         at = write_kept(kept[d], capacities[d], out, at);
-        d += 1;
     }
     at
 }
@@ -53,12 +54,9 @@ pub fn write_words(words: &[u32], out: &mut [u32], to: usize) -> usize
     ensures value { result ≡ to + length words.now }
     ensures out_after { out.new ≡ write out.old to words.now }
 {
-    let mut i = 0;
-    while i < words.len() {
-        out[to + i] = words[i];
-        i += 1;
-    }
-    to + i
+    let end = to + words.len();
+    out[to..end].copy_from_slice(words);
+    end
 }
 
 // The words of tasks, with the number that `numbers` has for each device.
@@ -74,12 +72,10 @@ pub fn write_tasks(
     ensures value { result ≡ to + length tasks.now }
     ensures out_after { out.new ≡ write out.old to (map (renamed_word (at numbers.now)) tasks.now) }
 {
-    let mut i = 0;
-    while i < tasks.len() {
-        out[to + i] = renamed(tasks[i], numbers);
-        i += 1;
+    for (i, &word) in tasks.iter().enumerate() {
+        out[to + i] = renamed(word, numbers);
     }
-    to + i
+    to + tasks.len()
 }
 
 // A task's word with the number that `numbers` has for its device; a TASK has none.
@@ -88,7 +84,7 @@ fn renamed(word: u32, numbers: &[u8; model::MAX_DEVICES]) -> u32
     requires numbers_len { length numbers.now ≡ 16 }
     ensures { result ≡ renamed_word (at numbers.now) word }
 {
-    if set_words::kind(word) == model::TASK {
+    if set_words::has_kind(word, Kind::Task) {
         return word;
     }
     set_words::with_device(word, numbers[set_words::device(word) as usize])

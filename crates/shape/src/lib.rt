@@ -1,10 +1,14 @@
-// The shape of a set: what an accepted list of words declares, by value. The reader makes it, and every layer above takes it beside the words.
+// The shape of a set: what an accepted list of words declares, by value. The reader makes it, and every layer above takes it with the words, as an accepted set.
 #![tactic(auto)]
+
+mod accepted;
+
+pub use accepted::AcceptedSet;
 
 #[derive(Clone, Copy)]
 pub struct Shape {
     pub devices: usize,
-    // The entries of the arrays past the counts are 0.
+    // The entries of the arrays past the counts are 0. The tasks' numbers are arrays of their own, since most passes read one of them, at every state.
     pub capacities: [u8; model::MAX_DEVICES],
     pub tasks: usize,
     // The action count of each task.

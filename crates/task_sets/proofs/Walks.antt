@@ -4,6 +4,7 @@ use native.Mathlib.Nat.{pow-suc}
 use native.Mathlib.Omega.{arith}
 use mathlib.Core.Path.{◌≡◌, refl, ◌∙◌}
 use mathlib.Core.Bool.{false, not, ◌&&◌}
+use mathlib.Core.List.{[], ◌∷◌}
 use lib.Count.{ones}
 use lib.Dec.{eqb, ltb}
 use lib.ListN.{length}
@@ -65,19 +66,15 @@ pub walk : Walk
 unfolding run after follow table mask_of sets_from choose
 walk = record { whole = refl; ends = refl }
 
--- each set of a run is worked out from the one before
-run-next : (j k m : ℕ) → k + 1 < j → at (run j m) (k + 1) ≡ next (at (run j m) k)
+-- a run that is left, one set further
+pub run-none : (j m : ℕ) → j ≡ 0 → run j m ≡ []
 unfolding run
-run-next zero k m h = absurd (omega arith)
-run-next (suc zero) k m h = absurd (omega arith)
-run-next (suc (suc j)) zero m h = refl
-run-next (suc (suc j)) (suc k) m h =
-    let e : suc k + 1 ≡ suc (k + 1) = omega arith in
-    rw e (run-next (suc j) k (next m) (omega arith))
+run-none j m e = rw e
 
--- so is each of the table
-pub table-next : (k : ℕ) → k < 254 → at table (k + 1) ≡ next (at table k)
-table-next k h = rw walk.whole at (run-next 255 k 1 (omega arith))
+pub run-more : (j m : ℕ) → (j ≡ 0 → ⊥) → run j m ≡ m ∷ run (j - 1) (next m)
+unfolding run
+run-more zero m n = absurd (n refl)
+run-more (suc j) m n = let e : suc j - 1 ≡ j = omega arith in rw e
 
 bytes : any 255 (λ k. not (ltb (at table k) 256)) ≡ false
 unfolding any table mask_of sets_from choose

@@ -1,22 +1,26 @@
 // The non-empty sets of eight tasks, each worked out from the one before, and the tests of a set's size. A set is a mask with bit i for task i.
 #![tactic(auto)]
 
+mod sets;
+
 ghost use Rattle.std.specs.Prelude.{◌≡◌, ℕ, ◌+◌, ◌-◌, ◌*◌, ◌^◌, ◌≤◌, ◌<◌, ltb};
 ghost use Rattle.std.specs.Int.Count.{ones};
 ghost use Rattle.task_sets.specs.Next.{follow, next};
 
+pub use sets::{TaskSets, all};
+
 // How many task sets there are.
-pub const TASK_SET_COUNT: usize = 255;
+const TASK_SET_COUNT: usize = 255;
 
 // The first set: task 0 alone.
-pub const FIRST_SET: u8 = 1;
+const FIRST_SET: u8 = 1;
 
 // Task 7 and all eight, as masks.
 const LAST_TASK: u8 = 128;
 
 const ALL_TASKS: u8 = 255;
 
-// What comes after the last set.
+// What comes after the last set. It is no Option, since the definition that `next_set` promises has the 0.
 const NO_SET: u8 = 0;
 
 // The next set where `gap` is the last absent task and `before` has the tasks before it. The last of these goes on by one and the tasks behind the gap follow it: a row
@@ -58,7 +62,7 @@ pub fn next_set(mask: u8) -> u8
 pub fn task_count(mask: u8) -> usize
     ensures { result ≡ ones mask }
 {
-    u32::count_ones(mask as u32) as usize
+    mask.count_ones() as usize
 }
 
 // Whether so many tasks can exceed the capacity, where each takes at most `most` units.
@@ -73,5 +77,5 @@ pub fn can_exceed(tasks: usize, most: u8, capacity: u8) -> bool
 pub fn exceeds_by_more(mask: u8, capacity: u8) -> bool
     ensures { result ≡ ltb (capacity + 1) (ones mask) }
 {
-    capacity as u32 + 1 < u32::count_ones(mask as u32)
+    capacity as usize + 1 < task_count(mask)
 }

@@ -1,21 +1,20 @@
 // An order of tasks, and its first faulty place.
-ghost use Rattle.std.specs.Prelude.{◌≡◌, length};
+ghost use Rattle.std.specs.Prelude.{◌≡◌, cond, ltb, length, Some, None};
 ghost use Rattle.model.specs.Below.{lowest};
 ghost use Rattle.model.specs.Trial.{faulty};
 
-// The first place that names an absent task or is past the longest order; the order's length if none is.
-pub(crate) fn first_fault(order: &[u8], tasks: usize) -> usize
-    ensures { result ≡ lowest (length order.now) (faulty tasks order.now) }
+// The first place that names an absent task or is past the longest order.
+pub(crate) fn first_fault(order: &[u8], tasks: usize) -> Option<usize>
+    ensures { let place = lowest (length order.now) (faulty tasks order.now) in
+        result ≡ cond (ltb place (length order.now)) (Some place) None }
 {
-    let mut i = 0;
-    while i < order.len() {
-        if model::MAX_ORDER <= i {
-            return i;
+    for (place, &task) in order.iter().enumerate() {
+        if model::MAX_ORDER <= place {
+            return Some(place);
         }
-        if tasks <= order[i] as usize {
-            return i;
+        if tasks <= task as usize {
+            return Some(place);
         }
-        i += 1;
     }
-    i
+    None
 }

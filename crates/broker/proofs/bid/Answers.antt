@@ -1,20 +1,31 @@
 -- `broker::bid` meets its contract: the record moves exactly if the answer is Granted.
-use mathlib.Core.Path.{sym}
+use borrow.Author.Rules.{rules}
+use mathlib.Core.Path.{◌≡◌, sym, ap, ◌∙◌}
+use mathlib.Core.Bool.{true}
+use Rattle.std.specs.Prelude.{Ok}
 use Rattle.model.specs.Broker.{is_granted}
-use Rattle.broker.specs.Says.{bid_of}
-use Rattle.broker.proofs.Granted.{not-granted}
+use Rattle.refusals.specs.Answers.{answer_of}
+use Rattle.broker.specs.declared.answers.Bid.TheVariants.{Granted}
+use Rattle.broker.specs.Says.{named, bid_of}
+use Rattle.broker.proofs.Granted.{not_granted_or_refused}
 use Rattle.broker.proofs.BidCases.{granted-left}
+use Rattle.broker.proofs.bid.Goals.{After-eq}
 use Rattle.broker.proofs.bid.Goals as goal
 
+is : (c : After-eq) → c.eq.result ≡ true → c.answer-answer.result ≡ Ok Granted
+is c granted = search (rules, c.eq.ensures, granted)
+
 pub granted-after-requires : goal.granted-after-requires
-unfolding bid_of
+unfolding answer_of named
 granted-after-requires c =
-    granted-left _ _ _ _ _ (sym c.in-Granted.ensures)
+    granted-left _ _ _ _ _ (sym c.answer-answer.ensures ∙ ap bid_of (is (goal.at.granted-after-requires c).After-eq c.if-eq.true))
 
-pub returns-in-Granted : goal.returns-in-Granted
-unfolding is_granted bid_of
-returns-in-Granted c =
-    rw (← c.answer-answer.ensures, c.in-Granted.is, c.granted-after.ensures)
+pub returns-then-eq : goal.returns-then-eq
+unfolding is_granted answer_of named
+returns-then-eq c =
+    rw (← c.answer-answer.ensures, is (goal.at.returns-then-eq c).After-eq c.if-eq.true, c.granted-after.ensures)
 
-pub returns-in_default : goal.returns-in_default
-returns-in_default c = rw (← c.answer-answer.ensures, not-granted _ c.in_default.not-Granted)
+pub returns-else-eq : goal.returns-else-eq
+returns-else-eq c =
+    let other : c.answer-answer.result ≡ Ok Granted → ⊥ = λ q. search (rules, q, c.if-eq.ensures) in
+    rw (← c.answer-answer.ensures, not_granted_or_refused _ other)

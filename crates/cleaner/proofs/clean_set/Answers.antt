@@ -1,11 +1,12 @@
 -- `cleaner::clean_set` meets its contract: 25 before anything is written, or the cleaned set.
 use Prim.Native.Nat.{ℕ, ◌-◌, ◌<◌, ◌≤◌}
 use native.Mathlib.Omega.{arith}
-use mathlib.Core.Path.{◌≡◌, ap, ap₂, ◌∙◌}
+use mathlib.Core.Path.{◌≡◌, ap₂, ◌∙◌}
 use mathlib.Core.List.{List}
 use lib.ListN.{length}
 use Rattle.model.specs.Answer.{given, refused}
-use Rattle.cleaner.specs.Says.{answer_of}
+use Rattle.refusals.specs.Answers.{answer_of, number_of}
+use Rattle.model.specs.Clean.{clean}
 use Rattle.cleaner.specs.Numbers.{former_set, clean_words}
 use Rattle.cleaner.proofs.Parts.{few-devices, Parts, parts}
 use Rattle.cleaner.proofs.Answers.{too_short, cleans}
@@ -27,6 +28,12 @@ module _ (c : After-number_devices-numbered) where
   needed : length words - (c.args.shape.devices - c.number_devices-numbered.result.count) ≡ length (clean_words words)
   needed = omega (arith, c.number_devices-numbered.ensures.count, known.no_more, known.needed, known.inside)
 
+  -- 25 tells how many words are needed
+  told : length c.args.slice.now < length (clean_words words)
+      → record { answer = refused 25 (length words - (c.args.shape.devices - c.number_devices-numbered.result.count)); slice = c.args.slice.now }
+      ≡ clean words c.args.slice.now
+  told h = rw needed (too_short words c.args.slice.now c.requires.accepted h)
+
 pub number_devices-numbered-requires : goal.number_devices-numbered-requires
 number_devices-numbered-requires c = few-devices c.requires
 
@@ -41,12 +48,11 @@ overflow_sub-needed-2 c =
     omega (arith, count n, (known n).inside)
 
 pub returns-then-slice-needed : goal.returns-then-slice-needed
-unfolding answer_of
+unfolding answer_of number_of
 returns-then-slice-needed c =
     let n = (goal.at.returns-then-slice-needed c).After-number_devices-numbered in
     let short : length c.args.slice.now < length (clean_words (words n)) = rw (needed n) at c.if-slice-needed.true in
-    ap (λ (k : ℕ). record { answer = refused 25 k; slice = c.args.slice.now }) (needed n)
-    ∙ too_short (words n) c.args.slice.now c.requires.accepted short
+    rw c.at.ensures (told n short)
 
 pub write_set-requires : goal.write_set-requires
 write_set-requires c =

@@ -1,5 +1,4 @@
 -- `cleaner::number_devices` meets its contract. The invariant: the devices before d have their numbers, and `count` of them are claimed.
-use Prim.Native.Nat.{◌-◌, ◌≤◌}
 use mathlib.Core.Path.{◌≡◌}
 use lib.ListN.{length}
 use Rattle.model.proofs.Lists.{Changed}
@@ -8,7 +7,4 @@ use Rattle.cleaner.proofs.number_devices.Given as goal
 
 abbrev pub invariant-loop-d : goal.invariant-loop-d
 invariant-loop-d l =
-    (l.d ≤ l.devices) × (length l.numbers ≡ 16) × (l.count ≡ marks_before l.claimed l.d) × Changed (marks_before l.claimed) l.initial.numbers l.d l.numbers
-
-abbrev pub decreases-loop-d : goal.decreases-loop-d
-decreases-loop-d l = l.devices - l.d
+    (length l.numbers ≡ 16) × (l.count ≡ marks_before l.claimed l.d) × Changed (marks_before l.claimed) l.initial.numbers l.d l.numbers

@@ -13,22 +13,25 @@ use Rattle.forbidden_boxes.proofs.device_boxes.Goals as goal
 pub returns-then-not-can_exceed : goal.returns-then-not-can_exceed
 returns-then-not-can_exceed c =
     let a = c.args in
-    let few : a.shape.tasks * a.most ≤ at a.shape.capacities a.device = ltb-false _ _ (sym c.can_exceed.ensures ∙ c.if-not-can_exceed.true) in
-    rw (device-passed c.requires.declares a.device a.most c.requires.no_more few) (wrote_none (omega arith))
+    let s = a.set.now in
+    let few : s.shape.tasks * a.most ≤ at s.shape.capacities a.device = ltb-false _ _ (sym c.can_exceed.ensures ∙ c.if-not-can_exceed.true) in
+    rw (device-passed s.declares a.device a.most c.requires.no_more few) (wrote_none (omega arith))
 
 pub can_exceed-requires-2 : goal.can_exceed-requires-2
 can_exceed-requires-2 c =
-    omega (arith, c.claimers.ensures, few-tasks c.requires.declares, claimers-le 0 c.args.shape.tasks c.task_rows-holds.result)
+    let s = c.args.set.now in
+    omega (arith, c.claimers.ensures, few-tasks s.declares, claimers-le 0 s.shape.tasks c.task_rows.new.rows.holds)
 
 pub returns-then-not-can_exceed-2 : goal.returns-then-not-can_exceed-2
 returns-then-not-can_exceed-2 c =
     let a = c.args in
-    let few : c.claimers.result * a.most ≤ at a.shape.capacities a.device =
+    let s = a.set.now in
+    let few : c.claimers.result * a.most ≤ at s.shape.capacities a.device =
     ltb-false _ _ (sym c.can_exceed-2.ensures ∙ c.if-not-can_exceed-2.true) in
-    rw (device-unclaimed c.requires.declares a.device a.most c.requires.no_more c.task_rows-holds.ensures c.claimers.result c.claimers.ensures few)
+    rw (device-unclaimed s.declares a.device a.most c.requires.no_more c.task_rows.ensures c.claimers.result c.claimers.ensures few)
     (wrote_none (omega arith))
 
 pub returns : goal.returns
 returns c =
     let a = c.args in
-    rw (← device-written c.requires.declares a.device a.most c.requires.no_more c.task_rows-holds.ensures (omega arith), ← c.forbidden_box-header.ensures) c.table_boxes.ensures
+    rw (← device-written a.set.now.declares a.device a.most c.requires.no_more c.task_rows.ensures (omega arith), ← c.forbidden_box-header.ensures) c.table_boxes.ensures

@@ -1,8 +1,7 @@
 -- `forbidden_boxes::forbidden_boxes` meets its contract. The invariant: the boxes of the devices before d are written.
 use Prim.Native.Nat.{ℕ}
-use mathlib.Core.Path.{◌∙◌}
 use mathlib.Core.List.{List}
-use Rattle.model.specs.Read.{set_in}
+use Rattle.shape.specs.SetOf.{set_of}
 use Rattle.shape.proofs.Declared.{devices-are}
 use Rattle.plan_words.proofs.Run.{placed, full, finished}
 use Rattle.forbidden_boxes.specs.Choices.{device_words}
@@ -12,23 +11,20 @@ use Rattle.forbidden_boxes.proofs.forbidden_boxes.Goals as goal
 
 -- the words of each device
 abbrev boxes : Start → ℕ → List ℕ
-boxes s = device_words (set_in s.args.words.now)
+boxes s = device_words (set_of s.args.set.now)
 
-pub returns-in-Full : goal.returns-in-Full
-returns-in-Full c =
-    let o = c.loop-d in
-    rw (← all-devices (set_in c.args.words.now) c.args.shape.devices (devices-are c.requires))
-    (full (boxes (goal.at.returns-in-Full c).Start) c.args.plan.now 0 c.args.shape.devices o.invariant.0 c.loop-d-test.true c.device_boxes.ensures c.in-Full.is)
+pub returns-in_err-to : goal.returns-in_err-to
+returns-in_err-to c =
+    let s = c.args.set.now in
+    rw (← all-devices (set_of s) s.shape.devices (devices-are s.declares), c.from_residual.ensures)
+    (full (boxes (goal.at.returns-in_err-to c).Start) c.args.plan.now 0 s.shape.devices c.loop-d.invariant c.loop-d-test.true c.device_boxes.ensures c.in_err-to.was)
 
 pub loop-d-preserved : goal.loop-d-preserved
 loop-d-preserved c =
-    let o = c.loop-d in (
-      placed (boxes (goal.at.loop-d-preserved c).Start) c.args.plan.now 0 c.args.shape.devices o.invariant.0 c.loop-d-test.true c.device_boxes.ensures c.in-Next.is,
-      c.device_boxes.auto.rows ∙ o.invariant.1,
-      c.device_boxes.auto.units ∙ o.invariant.2,
-    )
+    placed (boxes (goal.at.loop-d-preserved c).Start) c.args.plan.now 0 c.args.set.now.shape.devices c.loop-d.invariant c.loop-d-test.true c.device_boxes.ensures c.in_ok-to.was
 
 pub returns : goal.returns
 returns c =
-    rw (← all-devices (set_in c.args.words.now) c.args.shape.devices (devices-are c.requires))
-    (finished (boxes (goal.at.returns c).Start) c.args.plan.now 0 c.args.shape.devices c.loop-d.invariant.0 c.loop-d-test.false)
+    let s = c.args.set.now in
+    rw (← all-devices (set_of s) s.shape.devices (devices-are s.declares))
+    (finished (boxes (goal.at.returns c).Start) c.args.plan.now 0 s.shape.devices c.loop-d.invariant c.loop-d-test.false)

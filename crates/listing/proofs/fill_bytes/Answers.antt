@@ -6,7 +6,7 @@ use Rattle.listing.proofs.Rows.{none_filled, one-filled}
 use Rattle.listing.proofs.fill_bytes.Goals as goal
 
 pub loop-k-init : goal.loop-k-init
-loop-k-init c = let a = c.args in (omega arith, none_filled fours a.words.now a.out.now)
+loop-k-init c = let a = c.args in none_filled fours a.words.now a.out.now
 
 pub loop-k-preserved : goal.loop-k-preserved
 loop-k-preserved c =
@@ -14,4 +14,4 @@ loop-k-preserved c =
     let a = c.args in
     let o = c.loop-k in
     let p = c.put in
-    (omega arith, one-filled fours a.words.now a.out.now _ _ _ o.k (omega arith) (omega arith) o.invariant.1 bytes.ensures p.auto.out p.ensures.out_after)
+    one-filled fours a.words.now a.out.now _ _ _ o.k (omega arith) (omega arith) o.invariant bytes.ensures p.auto.out p.ensures.out_after

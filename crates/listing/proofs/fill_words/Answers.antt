@@ -17,9 +17,8 @@ loop-k-preserved c =
     let o = c.loop-k in
     let n : length (words_in bs) ≡ length bs / 4 = length-tabulate (length bs / 4) (word_at bs) in
     let w : c.word_at.result ≡ get_or (words_in bs) o.k 0 = c.word_at.ensures ∙ sym (get_d_tabulate (length bs / 4) (word_at bs) o.k 0 (omega arith)) in (
-      omega arith,
-      length-set o.words o.k c.word_at.result ∙ o.invariant.1,
-      ap₂ (λ (l : List ℕ) (v : ℕ). set l o.k v) o.invariant.2 w ∙ front-suc (words_in bs) a.words.now o.k (omega arith) (omega arith),
+      length-set o.words o.k c.word_at.result ∙ o.invariant.0,
+      ap₂ (λ (l : List ℕ) (v : ℕ). set l o.k v) o.invariant.1 w ∙ front-suc (words_in bs) a.words.now o.k (omega arith) (omega arith),
     )
 
 pub returns : goal.returns
@@ -29,4 +28,4 @@ returns c =
     let o = c.loop-k in
     let n : length (words_in bs) ≡ length bs / 4 = length-tabulate (length bs / 4) (word_at bs) in
     let q : o.k ≡ min (length (words_in bs)) (length a.words.now) = omega arith in
-    o.invariant.2 ∙ front-all (words_in bs) a.words.now o.k q
+    o.invariant.1 ∙ front-all (words_in bs) a.words.now o.k q

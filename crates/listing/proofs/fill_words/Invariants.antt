@@ -2,13 +2,9 @@
 -- Assumes nothing.
 use mathlib.Core.Path.{◌≡◌}
 use mathlib.Core.List.{◌++◌}
-use Prim.Native.Nat.{◌-◌, ◌≤◌}
 use lib.ListN.{length, take, drop}
 use Rattle.model.specs.Printed.{words_in}
 use Rattle.listing.proofs.fill_words.Given as goal
 
 abbrev pub invariant-loop-k : goal.invariant-loop-k
-invariant-loop-k l = (l.k ≤ l.count) × (length l.words ≡ length l.initial.words) × (l.words ≡ take l.k (words_in l.bytes) ++ drop l.k l.initial.words)
-
-abbrev pub decreases-loop-k : goal.decreases-loop-k
-decreases-loop-k l = l.count - l.k
+invariant-loop-k l = (length l.words ≡ length l.initial.words) × (l.words ≡ take l.k (words_in l.bytes) ++ drop l.k l.initial.words)

@@ -1,4 +1,4 @@
--- `listing::word_at` meets its contract: the indices lie within the whole words, and four bytes with their weights make a word.
+-- `listing::word_at` meets its contract: four bytes with their weights make a word.
 -- Assumes nothing.
 use borrow.Author.Rules.{rules}
 use Rattle.model.specs.Printed.{word_at}

@@ -1,11 +1,11 @@
 -- `merge::first_unequal` meets its contract: the devices before the one found, or all of them, have one capacity each.
 use Prim.Native.Nat.{ℕ}
 use native.Mathlib.Omega.{arith}
-use mathlib.Core.Path.{◌≡◌, sym}
+use mathlib.Core.Path.{◌≡◌}
 use mathlib.Core.Bool.{Bool, true, false, not}
 use mathlib.Core.List.{List}
 use lib.Dec.{eqb}
-use borrow.Author.Tests.{eq-eqb, ne_eqb}
+use borrow.Author.Tests.{eq-eqb, ne_eqb, lt-ltb, le-ltb}
 use Rattle.model.specs.Set.{at}
 use Rattle.model.proofs.Counts.{is-lowest, none-lowest}
 use Rattle.merge.proofs.first_unequal.Goals as goal
@@ -25,10 +25,13 @@ pub returns-then-first-d : goal.returns-then-first-d
 returns-then-first-d c =
     let a = c.args in
     let l = c.loop-d in
-    sym (is-lowest a.shared (unequal a.first.now a.second.now) l.d c.loop-d-test.true (apart _ _ l.d c.if-first-d.true) (λ e h. same _ _ e (l.invariant.1 e h)))
+    rw (
+      is-lowest a.shared (unequal a.first.now a.second.now) l.d (omega arith) (apart _ _ l.d c.if-first-d.true) (λ e h. same _ _ e (l.invariant e h)),
+      lt-ltb l.d a.shared (omega arith),
+    )
 
 pub returns : goal.returns
 returns c =
     let a = c.args in
     let l = c.loop-d in
-    sym (none-lowest a.shared (unequal a.first.now a.second.now) (λ e h. same _ _ e (l.invariant.1 e (omega arith))))
+    rw (none-lowest a.shared (unequal a.first.now a.second.now) (λ e h. same _ _ e (l.invariant e (omega arith))), le-ltb a.shared a.shared (omega arith))

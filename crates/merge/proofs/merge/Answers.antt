@@ -1,16 +1,26 @@
--- `merge::merge` meets its contract, by what the reader ensures of the first set's words.
-use Rattle.model.specs.Read.{read}
-use Rattle.reader.proofs.Facts.{of_refused}
-use Rattle.merge.specs.Says.{answer_of}
-use Rattle.merge.proofs.Answers.{accepts, first-refused}
+-- `merge::merge` meets its contract, by what the reader ensures of both sets' words.
+use mathlib.Core.Path.{◌≡◌, sym}
+use Rattle.std.proofs.lemmas.Result.{err_from_is_err_and}
+use Rattle.model.specs.Answer.{given}
+use Rattle.model.specs.Read.{read, set_in}
+use Rattle.refusals.specs.Answers.{answer_of}
+use Rattle.merge.proofs.Parts.{were-read}
+use Rattle.merge.proofs.Answers.{first-refused, second-refused}
 use Rattle.merge.proofs.merge.Goals as goal
 
-pub merge_second-requires : goal.merge_second-requires
-merge_second-requires c = accepts _ _ c.read-reading.ensures c.in-Accepted.is
-
-pub returns-in-Refused : goal.returns-in-Refused
+pub returns-in_err-one : goal.returns-in_err-one
 unfolding answer_of
-returns-in-Refused c =
+returns-in_err-one c =
     let a = c.args in
-    first-refused a.shared a.slice.now a.first.now a.second.now _ _
-    (of_refused (read a.first.now) _ _ (rw c.read-reading.ensures at c.in-Refused.is))
+    let p = err_from_is_err_and c.from_residual.result c.from_residual.ensures.1 in
+    rw (p.1, p.2) (first-refused a.shared a.slice.now a.first.now a.second.now _ _ (sym c.in_err-one.ensures.reads))
+
+pub returns-in_err-two : goal.returns-in_err-two
+unfolding answer_of
+returns-in_err-two c =
+    let a = c.args in
+    let p = err_from_is_err_and c.from_residual-in_err-two.result c.from_residual-in_err-two.ensures.1 in
+    let read-first : read a.first.now ≡ given (set_in a.first.now) = rw c.in_ok-one.ensures.lends at (were-read c.in_ok-one.one) in
+    rw (p.1, p.2)
+    (second-refused a.shared a.slice.now a.first.now a.second.now read-first _ _
+    (sym c.in_err-two.ensures.reads))

@@ -1,23 +1,13 @@
--- `plan_reader::locate` meets its contract: 22 first, then what the walk has seen in the end.
-use native.Mathlib.Omega.{arith}
-use mathlib.Core.Path.{ap, ◌∙◌}
-use borrow.Author.Tests.{le-leb, lt-leb}
-use Rattle.model.specs.StoredPlan.{locate}
+-- `plan_reader::locate` meets its contract: 22 first, then what the walk answers.
+use Rattle.std.proofs.Common.{sym, arith}
+use mathlib.Core.Logic.{inl, inr}
+use Rattle.refusals.specs.Answers as refusals
+use Rattle.refusals.specs.Answers.{answer_of}
 use Rattle.model.proofs.Bools.{by_cases}
-use Rattle.plan_reader.specs.Says.{answer_of}
-use Rattle.plan_reader.specs.Walk.{located}
-use Rattle.plan_reader.specs.declared.seen.Seen.{Seen}
-use Rattle.plan_reader.proofs.Ends.{walk-answers}
+use Rattle.model.proofs.Located.{uncounted}
 use Rattle.plan_reader.proofs.locate.Goals as goal
 
 pub returns-then-tasks-eq0 : goal.returns-then-tasks-eq0
-unfolding answer_of locate
+unfolding answer_of refusals.number_of
 returns-then-tasks-eq0 c =
-    let n = c.args.tasks in
-    by_cases c.then-tasks-eq0.either (λ e. rw e) (λ t. rw (le-leb 1 n (omega (arith, t)), lt-leb n 8 t.1))
-
-pub returns : goal.returns
-returns c =
-    let n = c.args.tasks in
-    ap answer_of c.answer.ensures ∙ ap (λ (z : Seen). answer_of (located z.found z.index)) c.walk.ensures
-    ∙ walk-answers n c.args.state _ (omega arith) (omega arith) (omega arith)
+    rw c.at.ensures (sym (uncounted c.args.state c.args.plan.now c.args.tasks (by_cases c.then-tasks-eq0.either inl (λ t. inr (omega (arith, t))))))

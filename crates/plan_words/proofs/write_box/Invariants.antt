@@ -8,6 +8,3 @@ use Rattle.plan_words.proofs.write_box.Given as goal
 abbrev pub invariant-loop-j : goal.invariant-loop-j
 invariant-loop-j l =
     Turn (word_at (set l.sides l.task l.word)) l.initial.plan (l.at + 1) l.count l.plan (l.at + 1 + l.j) l.j × (l.at + 1 + l.count ≤ length l.initial.plan)
-
-abbrev pub decreases-loop-j : goal.decreases-loop-j
-decreases-loop-j l = l.count - l.j

@@ -11,38 +11,38 @@ use Rattle.model.specs.Printed.{to_print, text_of, shown}
 use Rattle.model.proofs.Rows.{lines}
 use Rattle.listing.proofs.Shown.{all-rows, line-shown}
 use Rattle.printing.proofs.Shown.{has-plan, has-none}
-use Rattle.printing.proofs.print_plan.Goals.{In-Planned}
+use Rattle.printing.proofs.print_plan.Goals.{In-Ok}
 use Rattle.printing.proofs.print_plan.Goals as goal
 
 -- the words of the plan are what there is to print
-whole : (c : In-Planned) →
-    ((read c.args.words.now then to_print) ≡ given (take c.in-Planned.count c.analyse.new.plan))
-    × (c.in-Planned.count ≤ 16384)
-whole c = has-plan _ _ _ _ _ _ (omega (arith, length-replicate {A = ℕ} 65536 255)) (length-replicate {A = ℕ} 16384 0) c.in-Planned.ensures _ _ _ refl
+whole : (c : In-Ok) →
+    ((read c.args.words.now then to_print) ≡ given (take c.in-Ok.planned.words c.analyse.new.plan))
+    × (c.in-Ok.planned.words ≤ 16384)
+whole c = has-plan _ _ _ _ _ (omega (arith, length-replicate {A = ℕ} 65536 255)) (length-replicate {A = ℕ} 16384 0) _ c.in-Ok.ensures
 
-within : (c : In-Planned) → c.in-Planned.count ≤ length c.analyse.new.plan
+within : (c : In-Ok) → c.in-Ok.planned.words ≤ length c.analyse.new.plan
 within c = omega (arith, (whole c).1, c.analyse.auto.plan, length-replicate {A = ℕ} 16384 0)
 
 pub slice_bounds-plan-end : goal.slice_bounds-plan-end
-slice_bounds-plan-end c = within (goal.at.slice_bounds-plan-end c).In-Planned
+slice_bounds-plan-end c = within (goal.at.slice_bounds-plan-end c).In-Ok
 
 pub slice_bounds-fill_lines-end : goal.slice_bounds-fill_lines-end
-slice_bounds-fill_lines-end c = sym (length-take-le _ _ (within (goal.at.slice_bounds-fill_lines-end c).In-Planned))
+slice_bounds-fill_lines-end c = sym (length-take-le _ _ (within (goal.at.slice_bounds-fill_lines-end c).In-Ok))
 
-pub returns-in-Planned : goal.returns-in-Planned
+pub returns-in-Ok : goal.returns-in-Ok
 unfolding text_of
-returns-in-Planned c =
+returns-in-Ok c =
     let f = c.fill_lines.ensures in
     let text = c.args.text.now in
-    let ws : List ℕ = take c.in-Planned.count c.analyse.new.plan in
-    let n : length ws ≡ c.in-Planned.count = length-take-le _ _ (within (goal.at.returns-in-Planned c).In-Planned) in
-    let few = (whole (goal.at.returns-in-Planned c).In-Planned).1 in
-    record { text_after = all-rows lines ws text _ _ (omega (arith, f.value)) f.out_after ∙ ap (λ x. shown (text_of x) text) (sym (whole (goal.at.returns-in-Planned c).In-Planned).0); upper_bound = omega (arith, f.value) }
+    let ws : List ℕ = take c.in-Ok.planned.words c.analyse.new.plan in
+    let n : length ws ≡ c.in-Ok.planned.words = length-take-le _ _ (within (goal.at.returns-in-Ok c).In-Ok) in
+    let few = (whole (goal.at.returns-in-Ok c).In-Ok).1 in
+    record { text_after = all-rows lines ws text _ _ (omega (arith, f.value)) f.out_after ∙ ap (λ x. shown (text_of x) text) (sym (whole (goal.at.returns-in-Ok c).In-Ok).0); upper_bound = omega (arith, f.value) }
 
-pub returns-in-Refused : goal.returns-in-Refused
+pub returns-in-Err : goal.returns-in-Err
 unfolding text_of
-returns-in-Refused c =
+returns-in-Err c =
     let e = c.put_refusal.ensures in
     let text = c.args.text.now in
-    let none = has-none _ _ _ _ _ _ (omega (arith, length-replicate {A = ℕ} 65536 255)) (length-replicate {A = ℕ} 16384 0) c.in-Refused.ensures _ _ refl in
+    let none = has-none _ _ _ _ _ (omega (arith, length-replicate {A = ℕ} 65536 255)) (length-replicate {A = ℕ} 16384 0) _ c.in-Err.ensures in
     record { text_after = line-shown text_of (λ n p. refl) text _ _ _ _ _ none e.value e.out_after; upper_bound = omega (arith, e.upper_bound) }

@@ -1,14 +1,14 @@
--- `reader::close` meets its contract: the grid decides between refusal 12 and the shape of the set.
+-- `reader::close` meets its contract: the grid decides between refusal 12 and what the set has.
 use borrow.Author.Tests.{lt-ltb, le-ltb}
 use Prim.Native.Nat.{ℕ, ◌≤◌}
 use mathlib.Core.Path.{◌≡◌, sym, ap, ◌∙◌}
 use lib.ListN.{length, take, length-map}
+use Rattle.model.specs.Answer.{◌then◌}
 use Rattle.model.specs.Set.{lengths_of, size}
 use Rattle.model.specs.Read as model
-use Rattle.model.specs.Read.{set_of}
+use Rattle.refusals.specs.Answers.{number_of, answer_of}
 use Rattle.shape.specs.ShapeOf.{padded}
 use Rattle.shape.proofs.Padded.{padded-front}
-use Rattle.reader.specs.Answer.{verdict_of}
 use Rattle.reader.specs.declared.scan.Scan.{Scan}
 use Rattle.reader.specs.declared.weights.Weights.{Weights}
 use Rattle.reader.specs.Follow.{scan_of, Weighs}
@@ -25,14 +25,14 @@ module _ (m : model.Scan) (few : length m.set.tasks ≤ 8) where
   weighed s w e h = rw counts at (rw e at h)
 
 pub returns-then-grid-gt-MAX_GRID : goal.returns-then-grid-gt-MAX_GRID
-unfolding model.close
+unfolding model.close answer_of number_of ◌then◌
 returns-then-grid-gt-MAX_GRID c m few e =
-    let told = weighed m few _ _ e c.weigh-weighed.ensures in
-    c.refuse.ensures ∙ rw (lt-ltb 65536 (size (lengths_of m.set)) (told.over c.if-grid-gt-MAX_GRID.true))
+    let told = weighed m few _ _ e c.weigh-grid.ensures in
+    rw (c.at.ensures, lt-ltb 65536 (size (lengths_of m.set)) (told.over c.if-grid-gt-MAX_GRID.true))
 
 pub returns : goal.returns
-unfolding model.close verdict_of set_of
+unfolding model.close answer_of ◌then◌
 returns c m few e =
-    let told = weighed m few _ _ e c.weigh-weighed.ensures in
+    let told = weighed m few _ _ e c.weigh-grid.ensures in
     let within = c.if-grid-gt-MAX_GRID.false in
     rw (told.grid within, told.weights within, e, le-ltb 65536 (size (lengths_of m.set)) (rw (told.grid within) at within))

@@ -1,30 +1,31 @@
 -- `reader::read` meets its contract: what all words come to, the lowest device that no task claims, and the close of a whole set.
 use mathlib.Core.Path.{sym, ap, ◌∙◌}
-use Prim.Native.Nat.{ℕ}
-use Rattle.model.specs.Answer.{refused}
-use Rattle.reader.specs.Answer.{answer}
+use Rattle.std.proofs.lemmas.Result.{err_from_is_err_and}
+use Rattle.model.specs.Answer.{◌then◌}
+use Rattle.refusals.specs.Answers.{number_of, answer_of}
+use Rattle.reader.specs.Answer.{rules_of, answer}
 use Rattle.reader.specs.Follow.{Ended}
 use Rattle.reader.proofs.Closing.{stopped, unclaimed, no-objection}
-use Rattle.reader.proofs.read.Goals.{Else-all-gt-NO_FAULT}
+use Rattle.reader.proofs.read.Goals.{In_ok-scan}
 use Rattle.reader.proofs.read.Goals as goal
 
 -- the words have no fault
-whole : (c : Else-all-gt-NO_FAULT) → Ended c.args.words.now c.read_words-all.result.scan
-whole c = c.read_words-all.ensures.whole c.if-all-gt-NO_FAULT.false
+whole : (c : In_ok-scan) → Ended c.args.words.now c.in_ok-scan.scan
+whole c = c.in_ok-scan.ensures
 
-pub returns-then-all-gt-NO_FAULT : goal.returns-then-all-gt-NO_FAULT
-returns-then-all-gt-NO_FAULT c =
-    let all = c.read_words-all.ensures in
-    c.refuse.ensures ∙ sym (ap answer (stopped _ _ _ _ (all.stopped c.if-all-gt-NO_FAULT.true)))
+pub returns-in_err-scan : goal.returns-in_err-scan
+unfolding answer_of ◌then◌
+returns-in_err-scan c =
+    let p = err_from_is_err_and c.from_residual.result c.from_residual.ensures.1 in
+    rw (p.1, p.2, stopped (rules_of c.args.rules) _ _ _ c.in_err-scan.ensures)
 
-pub returns-then-unclaimed-scan : goal.returns-then-unclaimed-scan
-returns-then-unclaimed-scan c =
-    let w = whole (goal.at.returns-then-unclaimed-scan c).Else-all-gt-NO_FAULT in
-    let u = c.unclaimed_device-unclaimed.ensures in
-    c.refuse-then-unclaimed-scan.ensures ∙ sym (ap answer (unclaimed _ _ w _ (rw u at c.if-unclaimed-scan.true)) ∙ ap (λ (d : ℕ). answer (refused 24 d)) (sym u))
+pub returns-in-Some : goal.returns-in-Some
+unfolding answer_of number_of ◌then◌
+returns-in-Some c =
+    let w = whole (goal.at.returns-in-Some c).In_ok-scan in
+    rw (c.at.ensures, unclaimed _ _ w (rules_of c.args.rules) _ (sym c.unclaimed_device.ensures ∙ c.in-Some.is))
 
 pub returns : goal.returns
 returns c =
-    let w = whole (goal.at.returns c).Else-all-gt-NO_FAULT in
-    let u = c.unclaimed_device-unclaimed.ensures in
-    c.close.ensures w.scan w.tasks w.same ∙ sym (ap answer (no-objection _ _ w _ (rw u at c.if-unclaimed-scan.false)))
+    let w = whole (goal.at.returns c).In_ok-scan in
+    c.close.ensures w.scan w.tasks w.same ∙ sym (ap answer (no-objection _ _ w (rules_of c.args.rules) (sym c.unclaimed_device.ensures ∙ c.in_default.is)))

@@ -1,5 +1,5 @@
 -- `records::rank_of` meets its contract. The invariant: with the rank of the tasks from t on, `rank` is the whole rank; and it is small enough to grow.
-use Rattle.std.proofs.Common.{◌≡◌, ℕ, ◌+◌, ◌-◌, ◌*◌, ◌<◌, ◌≤◌, List, length, take, drop}
+use Rattle.std.proofs.Common.{◌≡◌, ℕ, ◌+◌, ◌*◌, ◌<◌, ◌≤◌, List, length, take, drop}
 use Rattle.model.specs.Set.{at}
 use Rattle.model.specs.State.{weight, rank}
 use Rattle.records.proofs.rank_of.Given as goal
@@ -13,6 +13,3 @@ Counted n weights positions t r =
 abbrev pub invariant-loop-t : goal.invariant-loop-t
 invariant-loop-t l =
     (l.t ≤ l.tasks) × (length l.positions ≡ 8) × (length l.weights ≡ 8) × (l.rank ≤ l.t * 16711680) × Counted l.tasks l.weights l.positions l.t l.rank
-
-abbrev pub decreases-loop-t : goal.decreases-loop-t
-decreases-loop-t l = l.tasks - l.t

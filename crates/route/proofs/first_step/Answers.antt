@@ -1,5 +1,4 @@
 -- `route::first_step` meets its contract. The invariant: the search from t on finds what the whole search finds.
-use borrow.Author.Rules.{rules}
 use borrow.Author.Tests.{lt-ltb, le-ltb, eq-eqb, ne_eqb}
 use Prim.Native.Nat.{ℕ, suc, ◌+◌, ◌-◌, ◌<◌, ◌≤◌}
 use native.Mathlib.Omega.{arith}
@@ -13,7 +12,7 @@ use Rattle.model.specs.State.{State}
 use Rattle.model.specs.Route.{step_from}
 use Rattle.model.proofs.Moves.{moves}
 use Rattle.route.proofs.Standing.{moves-is, next-room}
-use Rattle.route.proofs.first_step.Goals.{In-loop-t, Then-positions-t, then-positions-t+else-map-rank-eq-OPEN, else-positions-t}
+use Rattle.route.proofs.first_step.Goals.{In-loop-t, Then-positions-t, else-positions-t-via-then-positions-t+else-map-rank-eq-OPEN, else-positions-t-via-else-positions-t}
 use Rattle.route.proofs.first_step.Goals as goal
 
 module _ (ls m : List ℕ) (n t : ℕ) (x : State) (h : t < n) where
@@ -68,21 +67,23 @@ pub returns-then-map-rank-eq-OPEN : goal.returns-then-map-rank-eq-OPEN
 returns-then-map-rank-eq-OPEN c =
     let k = c.loop-t in
     let moving : Moves (goal.at.returns-then-map-rank-eq-OPEN c).In-loop-t ≡ true = rw (tested (goal.at.returns-then-map-rank-eq-OPEN c).In-loop-t, lt-ltb _ _ c.if-positions-t.true, eq-eqb _ _ c.if-map-rank-eq-OPEN.true) in
-    sym (found _ _ c.args.tasks k.t _ (omega arith) moving) ∙ k.invariant.0
+    let first = sym k.invariant.0 ∙ found _ _ c.args.tasks k.t _ (omega arith) moving in
+    rw (first, lt-ltb k.t c.args.tasks (omega arith))
 
 pub loop-t-preserved : goal.loop-t-preserved
 loop-t-preserved c =
     let k = c.loop-t in
     let i = (goal.at.loop-t-preserved c).In-loop-t in
     let passed_over : Moves i ≡ false =
-    rw (tested i) (elim c.if-positions-t.branch [
-      | then-positions-t+else-map-rank-eq-OPEN w ↦ rw (lt-ltb _ _ w.if-positions-t.true, ne_eqb _ _ w.if-map-rank-eq-OPEN.false)
-      | else-positions-t w ↦ rw (le-ltb _ _ w.if-positions-t.false)
+    rw (tested i) (elim c.else-positions-t.branch [
+      | else-positions-t-via-then-positions-t+else-map-rank-eq-OPEN w ↦ rw (lt-ltb _ _ w.if-positions-t.true, ne_eqb _ _ w.if-map-rank-eq-OPEN.false)
+      | else-positions-t-via-else-positions-t w ↦ rw (le-ltb _ _ w.if-positions-t.false)
     ])
     in
-    (sym (later _ _ c.args.tasks k.t _ (omega arith) passed_over) ∙ k.invariant.0, k.invariant.1, search rules)
+    (sym (later _ _ c.args.tasks k.t _ (omega arith) passed_over) ∙ k.invariant.0, k.invariant.1)
 
 pub returns : goal.returns
 returns c =
     let k = c.loop-t in
-    sym (none _ _ c.args.tasks k.t _ (omega arith) k.invariant.2) ∙ k.invariant.0
+    let first = sym k.invariant.0 ∙ none _ _ c.args.tasks k.t _ (omega arith) (omega arith) in
+    rw (first, le-ltb c.args.tasks c.args.tasks (omega arith))

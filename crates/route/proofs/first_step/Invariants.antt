@@ -1,5 +1,5 @@
 -- `route::first_step` meets its contract. The invariant: the search from t on finds what the whole search finds.
-use Prim.Native.Nat.{ℕ, ◌-◌, ◌≤◌}
+use Prim.Native.Nat.{ℕ, ◌-◌}
 use mathlib.Core.Path.{◌≡◌}
 use mathlib.Core.List.{List}
 use lib.ListN.{take}
@@ -14,7 +14,4 @@ Searches map n lengths positions t =
 
 abbrev pub invariant-loop-t : goal.invariant-loop-t
 invariant-loop-t l =
-    Searches l.map l.tasks l.lengths l.positions l.t × OnGrid l.map l.tasks l.lengths l.weights l.positions l.rank × (l.t ≤ l.tasks)
-
-abbrev pub decreases-loop-t : goal.decreases-loop-t
-decreases-loop-t l = l.tasks - l.t
+    Searches l.map l.tasks l.lengths l.positions l.t × OnGrid l.map l.tasks l.lengths l.weights l.positions l.rank

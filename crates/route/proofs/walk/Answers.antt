@@ -3,74 +3,78 @@ use borrow.Author.Rules.{rules}
 use Prim.Native.Nat.{◌+◌, ◌<◌, ◌≤◌}
 use native.Mathlib.Omega.{arith}
 use mathlib.Core.Path.{◌≡◌}
-use lib.ListN.{length, get_or, set, length-set}
+use lib.ListN.{length, get_or, set, length-set, take}
 use mir.Syntax.{w8}
 use mir.Val.{Fits}
+use Rattle.model.specs.Route.{first_step}
 use Rattle.route.proofs.Standing.{tasks-counted, next-room, next-on-grid}
 use Rattle.route.proofs.Walking.{stopped}
-use Rattle.route.proofs.Stepping.{has-action, rises, falls, goes-along}
-use Rattle.route.proofs.walk.Goals.{Else-tasks-t, Joined-steps-slice, then-steps-slice, else-steps-slice}
+use Rattle.route.proofs.Stepping.{is-found, none-found, has-action, rises, falls, goes-along}
+use Rattle.route.proofs.walk.Goals.{In-Some, Joined-steps-slice, then-steps-slice, else-steps-slice}
 use Rattle.route.proofs.walk.Goals as goal
 
--- after the search: the task found has an action left
-left : (c : Else-tasks-t) → (
-    let t = c.first_step-t.result in
-    get_or c.loop-lengths.positions t 0 < get_or c.args.lengths t 0)
-left c = has-action _ _ _ _ _ _ c.loop-lengths.invariant.0 _ c.first_step-t.ensures c.if-tasks-t.false
+-- the task that the search found, by the definition
+module _ (c : In-Some) where
+  abbrev first : (c.in-Some.t ≡ first_step (take c.args.tasks c.args.lengths) c.args.map.now (take c.args.tasks c.loop-t.positions)) × (c.in-Some.t < c.args.tasks)
+  first = is-found _ _ _ c.in-Some.ensures
 
-byte : (c : Else-tasks-t) → get_or c.args.lengths c.first_step-t.result 0 < 256
-byte c =
-    let b : Fits w8 (get_or c.args.lengths c.first_step-t.result 0) = search rules in
-    b.fits
+  -- it has an action left
+  left : get_or c.loop-t.positions c.in-Some.t 0 < get_or c.args.lengths c.in-Some.t 0
+  left = has-action _ _ _ _ _ _ c.loop-t.invariant.0 _ first.0 first.1
 
--- its step goes up, to a rank with a byte
-up : (c : Else-tasks-t) → 1 ≤ get_or c.args.weights c.first_step-t.result 0
-up c = rises _ _ _ _ _ _ c.loop-lengths.invariant.0 _ c.first_step-t.ensures c.if-tasks-t.false
+  byte : get_or c.args.lengths c.in-Some.t 0 < 256
+  byte =
+      let b : Fits w8 (get_or c.args.lengths c.in-Some.t 0) = search rules in
+      b.fits
 
-room : (c : Else-tasks-t) → (
-    let a = c.args in
-    c.loop-lengths.here + get_or a.weights c.first_step-t.result 0 < length a.map.now)
-room c = next-room _ _ _ _ _ _ c.loop-lengths.invariant.0 _ c.if-tasks-t.false (left c)
+  -- its step goes up, to a rank with a byte
+  up : 1 ≤ get_or c.args.weights c.in-Some.t 0
+  up = rises _ _ _ _ _ _ c.loop-t.invariant.0 _ first.0 first.1
+
+  room : c.loop-t.here + get_or c.args.weights c.in-Some.t 0 < length c.args.map.now
+  room = next-room _ _ _ _ _ _ c.loop-t.invariant.0 _ first.1 left
 
 -- the slice keeps its length, and takes the step where it has room
-same : (c : Joined-steps-slice) → length c.if-steps-slice.slice ≡ length c.loop-lengths.slice
+same : (c : Joined-steps-slice) → length c.if-steps-slice.slice ≡ length c.loop-t.slice
 same c =
-    let k = c.loop-lengths in
+    let k = c.loop-t in
     elim c.if-steps-slice.branch [
-      | then-steps-slice w ↦ rw w.slice-is (length-set k.slice k.steps c.first_step-t.result)
+      | then-steps-slice w ↦ rw w.slice-is (length-set k.slice k.steps c.in-Some.t)
       | else-steps-slice w ↦ rw w.slice-is
     ]
 
 stored : (c : Joined-steps-slice) → (
-    let k = c.loop-lengths in
-    k.steps < length k.slice → c.if-steps-slice.slice ≡ set k.slice k.steps c.first_step-t.result)
+    let k = c.loop-t in
+    k.steps < length k.slice → c.if-steps-slice.slice ≡ set k.slice k.steps c.in-Some.t)
 stored c l = elim c.if-steps-slice.branch [ then-steps-slice w ↦ w.slice-is | else-steps-slice w ↦ absurd (omega arith) ]
 
-pub returns-then-tasks-t : goal.returns-then-tasks-t
-returns-then-tasks-t c =
-    let k = c.loop-lengths in
-    stopped _ _ _ _ _ _ _ _ k.invariant.2 k.invariant.0.grid
-    (omega (arith, tasks-counted _ _ _ _ _ _ k.invariant.0, c.first_step-t.ensures)) k.invariant.0.is-rank
-
 pub overflow_add-positions : goal.overflow_add-positions
-overflow_add-positions c = record { fits = omega (arith, left (goal.at.overflow_add-positions c).Else-tasks-t, byte (goal.at.overflow_add-positions c).Else-tasks-t) }
+overflow_add-positions c = record { fits = omega (arith, left (goal.at.overflow_add-positions c).In-Some, byte (goal.at.overflow_add-positions c).In-Some) }
 
 pub overflow_add-here : goal.overflow_add-here
-overflow_add-here c = record { fits = omega (arith, room (goal.at.overflow_add-here c).Else-tasks-t) }
+overflow_add-here c = record { fits = omega (arith, room (goal.at.overflow_add-here c).In-Some) }
 
 pub overflow_add-steps : goal.overflow_add-steps
-overflow_add-steps c = record { fits = omega (arith, room (goal.at.overflow_add-steps c).Else-tasks-t, up (goal.at.overflow_add-steps c).Else-tasks-t, c.loop-lengths.invariant.1) }
+overflow_add-steps c = record { fits = omega (arith, room (goal.at.overflow_add-steps c).In-Some, up (goal.at.overflow_add-steps c).In-Some, c.loop-t.invariant.1) }
 
-pub loop-lengths-smaller : goal.loop-lengths-smaller
-loop-lengths-smaller c =
-    let k = c.loop-lengths in
-    falls _ _ _ _ _ _ k.invariant.0 _ c.first_step-t.ensures c.if-tasks-t.false
+pub loop-t-smaller : goal.loop-t-smaller
+loop-t-smaller c =
+    let f = first (goal.at.loop-t-smaller c).In-Some in
+    falls _ _ _ _ _ _ c.loop-t.invariant.0 _ f.0 f.1
 
-pub loop-lengths-preserved : goal.loop-lengths-preserved
-loop-lengths-preserved c =
-    let k = c.loop-lengths in
-    let found = c.first_step-t.ensures in (
-      next-on-grid _ _ _ _ _ _ k.invariant.0 _ c.if-tasks-t.false (left (goal.at.loop-lengths-preserved c).Else-tasks-t),
-      omega (arith, up (goal.at.loop-lengths-preserved c).Else-tasks-t, k.invariant.1),
-      goes-along _ _ _ _ _ _ k.invariant.0 _ found c.if-tasks-t.false _ _ _ _ _ c.if-steps-slice.slice k.invariant.2 (same (goal.at.loop-lengths-preserved c).Joined-steps-slice) (stored (goal.at.loop-lengths-preserved c).Joined-steps-slice),
+pub loop-t-preserved : goal.loop-t-preserved
+loop-t-preserved c =
+    let k = c.loop-t in
+    let s = (goal.at.loop-t-preserved c).In-Some in
+    let j = (goal.at.loop-t-preserved c).Joined-steps-slice in
+    let f = first s in (
+      next-on-grid _ _ _ _ _ _ k.invariant.0 _ f.1 (left s),
+      omega (arith, up s, k.invariant.1),
+      goes-along _ _ _ _ _ _ k.invariant.0 _ f.0 f.1 _ _ _ _ _ c.if-steps-slice.slice k.invariant.2 (same j) (stored j),
     )
+
+pub returns : goal.returns
+returns c =
+    let k = c.loop-t in
+    stopped _ _ _ _ _ _ _ _ k.invariant.2 k.invariant.0.grid
+    (omega (arith, tasks-counted _ _ _ _ _ _ k.invariant.0, none-found _ _ c.in_default.ensures)) k.invariant.0.is-rank

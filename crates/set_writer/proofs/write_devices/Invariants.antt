@@ -1,5 +1,5 @@
 -- `set_writer::write_devices` meets its contract. The invariant: the kept devices before d are written.
-use Prim.Native.Nat.{ℕ, ◌-◌}
+use Prim.Native.Nat.{ℕ}
 use mathlib.Core.Bool.{Bool, false}
 use mathlib.Core.List.{List}
 use lib.ListN.{get_or, take}
@@ -11,6 +11,3 @@ marked kept d = get_or kept d false
 
 abbrev pub invariant-loop-d : goal.invariant-loop-d
 invariant-loop-d l = Turn (marked l.kept) (take l.devices l.capacities) l.initial.out l.to l.out l.at l.d
-
-abbrev pub decreases-loop-d : goal.decreases-loop-d
-decreases-loop-d l = l.devices - l.d

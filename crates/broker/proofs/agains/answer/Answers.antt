@@ -1,22 +1,15 @@
 -- `broker::agains::answer` meets its contract, by what the reader ensures of the words.
+use Rattle.std.proofs.lemmas.Result.{err_from_is_err_and}
+use Rattle.refusals.specs.Answers.{answer_of}
 use Rattle.model.specs.Answer.{◌then◌}
-use Rattle.reader.proofs.Facts.{accepted, turned_back}
 use Rattle.broker.proofs.agains.answer.Goals as goal
 
-pub answer_on-requires : goal.answer_on-requires
-answer_on-requires c =
-    let r = c.read-reading in
-    (_, _, (accepted _ r.result r.ensures c.in-Accepted.is).1)
+pub returns-in_err-set : goal.returns-in_err-set
+unfolding answer_of ◌then◌
+returns-in_err-set c =
+    let p = err_from_is_err_and c.from_residual.result c.from_residual.ensures.1 in
+    rw (p.1, p.2, ← c.in_err-set.ensures.reads)
 
-pub returns-in-Refused : goal.returns-in-Refused
-unfolding ◌then◌
-returns-in-Refused c =
-    let r = c.read-reading in
-    rw (turned_back _ r.result r.ensures _ _ c.in-Refused.is) c.refuse.ensures
-
-pub returns-in-Accepted : goal.returns-in-Accepted
-unfolding ◌then◌
-returns-in-Accepted c =
-    let r = c.read-reading in
-    let a = accepted _ r.result r.ensures c.in-Accepted.is in
-    rw a.0 (c.answer_on.ensures _ _ a.1)
+pub returns : goal.returns
+unfolding answer_of ◌then◌
+returns c = rw (← c.in_ok-set.ensures.reads) c.answer_on.ensures

@@ -2,12 +2,13 @@
 use borrow.Author.Tests.{lt-ltb, le-ltb, eq-eqb, ne_eqb, eqb-false}
 use Prim.Native.Nat.{ℕ, ◌<◌, ◌≤◌}
 use native.Mathlib.Omega.{arith}
-use mathlib.Core.Path.{◌≡◌, ◌∙◌}
+use mathlib.Core.Path.{◌≡◌}
 use lib.Dec.{eqb}
 use Rattle.model.specs.Answer.{given, refused}
 use Rattle.model.specs.Broker.{granted, busy, held, bid_byte}
 use Rattle.model.proofs.Bools.{by_bool}
-use Rattle.broker.specs.Says.{bid_of}
+use Rattle.broker.specs.Says.{named}
+use Rattle.refusals.specs.Answers.{number_of, answer_of}
 use Rattle.broker.proofs.by_map.byte_answer.Goals as goal
 
 module _ (b r d : ℕ) where
@@ -31,16 +32,17 @@ module _ (b r d : ℕ) where
   no_byte h = rw (lt-ltb 3 b h)
 
 pub returns-in-0 : goal.returns-in-0
-unfolding bid_of
+unfolding answer_of named
 returns-in-0 c = open-byte _ _ _ c.in-0.is
 
 pub returns-in-1 : goal.returns-in-1
-unfolding bid_of
+unfolding answer_of named
 returns-in-1 c = forbidden-byte _ _ _ c.in-1.is
 
 pub returns-in-2 : goal.returns-in-2
-unfolding bid_of
+unfolding answer_of named
 returns-in-2 c = unsafe-byte _ _ _ (omega arith) (omega arith)
 
 pub returns-in_default : goal.returns-in_default
-returns-in_default c = c.refuse.ensures ∙ no_byte _ _ _ (omega arith)
+unfolding answer_of number_of
+returns-in_default c = rw c.at.ensures (no_byte _ _ _ (omega arith))

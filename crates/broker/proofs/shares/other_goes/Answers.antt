@@ -1,5 +1,4 @@
 -- `broker::shares::other_goes` meets its contract. The invariant: none of the tasks before t has share left and would be granted.
-use borrow.Author.Rules.{rules}
 use borrow.Author.Tests.{eqb-true, le-ltb}
 use Prim.Native.Nat.{ℕ, ◌<◌, ◌≤◌}
 use native.Mathlib.Omega.{arith}
@@ -39,29 +38,29 @@ module _ {words : List ℕ} {shape : Shape} {s : Set} (d : Declares words shape 
 
 pub loop-t-init : goal.loop-t-init
 unfolding any
-loop-t-init c = (search rules, refl)
+loop-t-init c = refl
 
 pub overflow_add-rank : goal.overflow_add-rank
 overflow_add-rank c =
-    let p = c.requires in
-    record { fits = omega (arith, weight-small p.2 c.loop-t.t (omega arith), rank-small p.2 p.3) }
+    let d = c.args.set.now.declares in
+    record { fits = omega (arith, weight-small d c.loop-t.t (omega arith), rank-small d c.requires) }
 
 pub goes-requires : goal.goes-requires
-goes-requires c =
-    let p = c.requires in
-    next-in p.2 p.3 c.loop-t.t (omega arith)
+goes-requires c = next-in c.args.set.now.declares c.requires c.loop-t.t (omega arith)
 
 pub returns-then-goes : goal.returns-then-goes
-returns-then-goes c words s d f task none =
+returns-then-goes c task none =
+    let d = c.args.set.now.declares in
     let i = c.loop-t in
-    sym (any-intro _ _ i.t (omega (arith, tasks-are d)) (sym c.goes.ensures ∙ c.if-goes.true)) ∙ passed_over d f _ task none
+    sym (any-intro _ _ i.t (omega (arith, tasks-are d)) (sym c.goes.ensures ∙ c.if-goes.true)) ∙ passed_over d c.requires _ task none
 
 pub loop-t-preserved : goal.loop-t-preserved
 loop-t-preserved c =
     let i = c.loop-t in
-    (search rules, any-more i.t _ i.invariant.1 (sym c.goes.ensures ∙ c.if-goes.false))
+    any-more i.t _ i.invariant (sym c.goes.ensures ∙ c.if-goes.false)
 
 pub returns : goal.returns
-returns c words s d f task none =
+returns c task none =
+    let d = c.args.set.now.declares in
     let i = c.loop-t in
-    sym (any-whole _ _ i.t (omega (arith, tasks-are d)) (omega (arith, tasks-are d)) i.invariant.1) ∙ passed_over d f _ task none
+    sym (any-whole _ _ i.t (omega (arith, tasks-are d)) (omega (arith, tasks-are d)) i.invariant) ∙ passed_over d c.requires _ task none

@@ -1,5 +1,5 @@
 -- `broker::shares::other_goes` meets its contract. The invariant: none of the tasks before t has share left and would be granted.
-use Prim.Native.Nat.{ℕ, ◌+◌, ◌-◌, ◌≤◌}
+use Prim.Native.Nat.{ℕ, ◌+◌}
 use mathlib.Core.Path.{◌≡◌}
 use mathlib.Core.Bool.{Bool, false, ◌&&◌}
 use mathlib.Core.List.{List}
@@ -14,8 +14,4 @@ tested map rank share lengths weights positions counts t =
     ltb (at counts t) share && (ltb (at positions t) (at lengths t) && eqb (at map (rank + at weights t)) 0)
 
 abbrev pub invariant-loop-t : goal.invariant-loop-t
-invariant-loop-t l =
-    (l.t ≤ l.tasks) × (any l.t (tested l.map l.rank l.settings.share l.lengths l.weights l.positions l.counts) ≡ false)
-
-abbrev pub decreases-loop-t : goal.decreases-loop-t
-decreases-loop-t l = l.tasks - l.t
+invariant-loop-t l = any l.t (tested l.map l.rank l.settings.share l.lengths l.weights l.positions l.counts) ≡ false

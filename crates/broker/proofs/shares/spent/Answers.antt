@@ -3,6 +3,4 @@ use borrow.Author.Tests.{le-ltb}
 use Rattle.broker.proofs.shares.spent.Goals as goal
 
 pub returns : goal.returns
-returns c =
-    let p = c.requires in
-    rw (le-ltb _ _ c.if-count-settings.false) (c.other_goes.ensures _ _ p.0 p.1 _ c.if-count-settings.false)
+returns c = rw (le-ltb _ _ c.if-count-settings.false) (c.other_goes.ensures _ c.if-count-settings.false)

@@ -21,18 +21,18 @@ module _ (t : ℕ) where
   abbrev boxes : After-first_side-first t → ℕ → List ℕ
   boxes c =
       let a = c.args in
-      turn a.rows.now a.units.now a.holds.now a.limit.header a.limit.capacity a.left a.task a.mask a.sum.all a.sum.least
+      turn a.rows.now.sides a.rows.now.units a.rows.now.holds a.limit.header a.limit.capacity a.left a.task a.mask a.sum.all a.sum.least
       c.first_side-first.result (take a.task a.sides)
 
   -- together they are those to write
   sides-in-turn : (c : After-first_side-first t)
       → (let a = c.args in
-      choice_words a.rows.now a.units.now a.holds.now a.limit.header a.limit.capacity a.left a.task a.mask a.sum.all a.sum.least
+      choice_words a.rows.now.sides a.rows.now.units a.rows.now.holds a.limit.header a.limit.capacity a.left a.task a.mask a.sum.all a.sum.least
       (take a.task a.sides)
       ≡ up_to c.side_count-count.result 0 (boxes c))
   sides-in-turn c =
       let a = c.args in
-      each-side a.rows.now a.units.now a.holds.now a.limit.header a.limit.capacity a.left a.task a.mask a.sum.all a.sum.least
+      each-side a.rows.now.sides a.rows.now.units a.rows.now.holds a.limit.header a.limit.capacity a.left a.task a.mask a.sum.all a.sum.least
       c.first_side-first.result (take a.task a.sides)
       (some_left a.mask a.left c.requires.mask_bound c.requires.mask_nonzero) c.side_count-count.ensures c.first_side-first.ensures
 
@@ -40,14 +40,14 @@ module _ (t : ℕ) where
   in-range : (c : In-loop-i t) → c.first_side-first.result + c.loop-i.i < ROWS
   in-range c =
       let a = c.args in
-      in_rows a.task a.mask c.requires.sized (omega (arith, some_left a.mask a.left c.requires.mask_bound c.requires.mask_nonzero))
+      in_rows a.task a.mask a.rows.now.sized (omega (arith, some_left a.mask a.left c.requires.mask_bound c.requires.mask_nonzero))
       c.side_count-count.ensures c.first_side-first.ensures c.loop-i-test.true
 
   -- what a turn makes of the plan
   turned : (c : After-choices t)
       → (let a = c.args in
       Wrote c.loop-i.plan c.loop-i.to
-      (turn a.rows.now a.units.now a.holds.now a.limit.header a.limit.capacity a.left a.task a.mask a.sum.all a.sum.least
+      (turn a.rows.now.sides a.rows.now.units a.rows.now.holds a.limit.header a.limit.capacity a.left a.task a.mask a.sum.all a.sum.least
       c.first_side-first.result (take a.task a.sides) c.loop-i.i)
       c.choices.result c.choices.new.plan)
   turned c =
@@ -55,16 +55,16 @@ module _ (t : ℕ) where
       let o = c.loop-i in
       let f = c.first_side-first.result in
       let more = some_left a.mask a.left c.requires.mask_bound c.requires.mask_nonzero in
-      let k = chosen o.next (take a.task a.sides) a.task (at a.rows.now (f + o.i)) (omega arith) o.invariant.2 in
+      let k = chosen o.next (take a.task a.sides) a.task (at a.rows.now.sides (f + o.i)) (omega arith) o.invariant.2 in
       let w = c.with_side.ensures in
       wrote-same
-      (same-choice a.rows.now a.units.now a.holds.now a.limit.header a.limit.capacity (a.left - 1) (a.task + 1) (a.mask / 2) w.0 w.1 k)
+      (same-choice a.rows.now.sides a.rows.now.units a.rows.now.holds a.limit.header a.limit.capacity (a.left - 1) (a.task + 1) (a.mask / 2) w.0 w.1 k)
       c.choices.ensures
 
 pub returns-then-mask-eq1 : goal.returns-then-mask-eq1
 returns-then-mask-eq1 t c =
     let a = c.args in
-    rw (last-chosen a.rows.now a.units.now a.holds.now a.limit.header a.limit.capacity a.left a.task a.mask a.sum.all a.sum.least
+    rw (last-chosen a.rows.now.sides a.rows.now.units a.rows.now.holds a.limit.header a.limit.capacity a.left a.task a.mask a.sum.all a.sum.least
     a.sides c.if-mask-eq1.true (some_left a.mask a.left c.requires.mask_bound c.requires.mask_nonzero) (omega arith) c.requires.whole)
     c.hold_boxes.ensures
 
@@ -75,13 +75,13 @@ pub offset_bounds-rows-first : goal.offset_bounds-rows-first
 offset_bounds-rows-first t c = omega (arith, in-range t (goal.at.offset_bounds-rows-first t c).In-loop-i)
 
 pub bounds-rows-first : goal.bounds-rows-first
-bounds-rows-first t c = omega (arith, in-range t (goal.at.bounds-rows-first t c).In-loop-i)
+bounds-rows-first t c = in-range t (goal.at.bounds-rows-first t c).In-loop-i
 
 pub overflow_add-first : goal.overflow_add-first
 overflow_add-first t c = omega (arith, in-range t (goal.at.overflow_add-first t c).In-loop-i)
 
-pub bounds-units-first : goal.bounds-units-first
-bounds-units-first t c = omega (arith, in-range t (goal.at.bounds-units-first t c).In-loop-i)
+pub bounds-rows-first-in-loop-i : goal.bounds-rows-first-in-loop-i
+bounds-rows-first-in-loop-i t c = omega (arith, in-range t (goal.at.bounds-rows-first-in-loop-i t c).In-loop-i)
 
 pub choices-requires : goal.choices-requires
 choices-requires t c =
@@ -91,30 +91,30 @@ choices-requires t c =
     let more = some_left a.mask a.left r.mask_bound r.mask_nonzero in
     let less = half a.mask a.left r.mask_bound more in
     let odd = half-some a.mask r.mask_nonzero c.if-mask-eq1.false in
-    let v = at a.rows.now (c.first_side-first.result + o.i) in
-    let whole = whole_set a.rows.now o.next a.task (a.left - 1) v o.invariant.3 in
+    let v = at a.rows.now.sides (c.first_side-first.result + o.i) in
+    let whole = whole_set a.rows.now.sides o.next a.task (a.left - 1) v o.invariant.3 in
     let sum : c.with_side.result.all ≤ 255 * (a.task + 1) = omega (arith, c.with_side.ensures.2, r.all_bound) in
-    (omega arith, (omega arith, (omega arith, (r.sized, (less, (odd, (whole, sum)))))))
+    (omega arith, (omega arith, (omega arith, (less, (odd, (whole, sum))))))
 
-pub returns-in-Full : goal.returns-in-Full
-returns-in-Full t c =
+pub returns-in_err-to : goal.returns-in_err-to
+returns-in_err-to t c =
     let a = c.args in
-    let f = (goal.at.returns-in-Full t c).After-first_side-first in
-    rw (sides-in-turn t f)
+    let f = (goal.at.returns-in_err-to t c).After-first_side-first in
+    rw (sides-in-turn t f, c.from_residual.ensures)
     (full (boxes t f) a.plan.now a.at c.side_count-count.result c.loop-i.invariant.0 c.loop-i-test.true
-    (turned t (goal.at.returns-in-Full t c).After-choices) c.in-Full.is)
+    (turned t (goal.at.returns-in_err-to t c).After-choices) c.in_err-to.was)
 
 pub loop-i-preserved : goal.loop-i-preserved
 loop-i-preserved t c =
     let a = c.args in
     let o = c.loop-i in
-    let v = at a.rows.now (c.first_side-first.result + o.i) in
+    let v = at a.rows.now.sides (c.first_side-first.result + o.i) in
     let p = goal.at.loop-i-preserved t c in (
       placed (boxes t p.After-first_side-first) a.plan.now a.at c.side_count-count.result o.invariant.0 c.loop-i-test.true
-          (turned t p.After-choices) c.in-Next.is,
+          (turned t p.After-choices) c.in_ok-to.was,
       length-set o.next a.task v ∙ o.invariant.1,
       take-set-le a.task o.next a.task v (omega arith) ∙ o.invariant.2,
-      whole_set a.rows.now o.next a.task (a.left - 1) v o.invariant.3,
+      whole_set a.rows.now.sides o.next a.task (a.left - 1) v o.invariant.3,
     )
 
 pub returns : goal.returns

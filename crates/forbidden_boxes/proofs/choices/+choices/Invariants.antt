@@ -14,10 +14,7 @@ decreases-choices l = l.left
 
 abbrev pub invariant-loop-i : goal.invariant-loop-i
 invariant-loop-i l =
-    Turn (turn l.rows l.units l.holds l.limit.header l.limit.capacity l.left l.task l.mask l.sum.all l.sum.least l.first (take l.task l.initial.next)) l.initial.plan l.at l.count l.plan l.to l.i
+    Turn (turn l.rows.sides l.rows.units l.rows.holds l.limit.header l.limit.capacity l.left l.task l.mask l.sum.all l.sum.least l.first (take l.task l.initial.next)) l.initial.plan l.at l.count l.plan l.to l.i
     × (length l.next ≡ 8)
     × (take l.task l.next ≡ take l.task l.initial.next)
-    × Whole l.rows l.next (l.task + 1) (l.left - 1)
-
-abbrev pub decreases-loop-i : goal.decreases-loop-i
-decreases-loop-i l = l.count - l.i
+    × Whole l.rows.sides l.next (l.task + 1) (l.left - 1)

@@ -1,5 +1,5 @@
 -- `forbidden_boxes::choices::hold_boxes` meets its contract. The invariant: the boxes with the first i holds are written.
-use Prim.Native.Nat.{ℕ, ◌+◌, ◌*◌, ◌-◌}
+use Prim.Native.Nat.{ℕ, ◌+◌, ◌*◌}
 use mathlib.Core.Bool.{cond, ◌&&◌}
 use mathlib.Core.List.{List, [], ◌∷◌}
 use lib.ListN.{take, set}
@@ -9,15 +9,12 @@ use Rattle.plan_words.proofs.Run.{Turn}
 use Rattle.forbidden_boxes.specs.Rows.{ROW}
 use Rattle.forbidden_boxes.proofs.choices.hold_boxes.Given as goal
 
--- the box with the i-th hold, if its units are more than `above`, `upto` at most
+-- the box with the i-th hold, if its units are `first` at least and less than `end`
 abbrev pub box_at : List ℕ → List ℕ → ℕ → ℕ → ℕ → ℕ → ℕ → List ℕ → ℕ → List ℕ
-box_at rows units header above upto n t sides i =
+box_at rows units header first end n t sides i =
     let u = at units (t * ROW + i) in
-    cond (ltb above u && leb u upto) (header ∷ take n (set sides t (at rows (t * ROW + i)))) []
+    cond (leb first u && ltb u end) (header ∷ take n (set sides t (at rows (t * ROW + i)))) []
 
 abbrev pub invariant-loop-i : goal.invariant-loop-i
 invariant-loop-i l =
-    Turn (box_at l.rows l.units l.limit.header l.rest.above l.rest.upto (l.task + l.left) l.task l.sides) l.initial.plan l.at l.count l.plan l.to l.i
-
-abbrev pub decreases-loop-i : goal.decreases-loop-i
-decreases-loop-i l = l.count - l.i
+    Turn (box_at l.rows.sides l.rows.units l.limit.header l.missing.start l.missing.end (l.task + l.left) l.task l.sides) l.initial.plan l.at l.count l.plan l.to l.i

@@ -6,7 +6,4 @@ use Rattle.forbidden_boxes.proofs.rows.claimers.Given as goal
 
 -- found so far, and to be found
 abbrev pub invariant-loop-t : goal.invariant-loop-t
-invariant-loop-t l = (l.t ≤ l.tasks) × (l.found ≤ l.t) × (l.found + claimers_from l.t (l.tasks - l.t) l.holds ≡ claimers_from 0 l.tasks l.holds)
-
-abbrev pub decreases-loop-t : goal.decreases-loop-t
-decreases-loop-t l = l.tasks - l.t
+invariant-loop-t l = (l.found ≤ l.t) × (l.found + claimers_from l.t (l.tasks - l.t) l.rows.holds ≡ claimers_from 0 l.tasks l.rows.holds)

@@ -5,11 +5,10 @@ use Rattle.plan_words.proofs.After.{wrote_none}
 use Rattle.forbidden_boxes.specs.Choices.{set_words}
 use Rattle.forbidden_boxes.proofs.sets.set_boxes.Goals as goal
 
-pub returns-then-wanted : goal.returns-then-wanted
+pub returns-then-not-wanted : goal.returns-then-not-wanted
 unfolding set_words
-returns-then-wanted c =
-    rw (sym c.wanted.ensures ∙ c.if-wanted.true) c.choices.ensures
+returns-then-not-wanted c = rw (sym c.wanted.ensures ∙ c.if-not-wanted.true) (wrote_none (omega arith))
 
-pub returns-else-wanted : goal.returns-else-wanted
+pub returns : goal.returns
 unfolding set_words
-returns-else-wanted c = rw (sym c.wanted.ensures ∙ c.if-wanted.false) (wrote_none (omega arith))
+returns c = rw (sym c.wanted.ensures ∙ c.if-not-wanted.false) c.choices.ensures

@@ -11,14 +11,8 @@ returns-then-mask-eq0 c =
     let out = ne_eqb (c.args.mask % 2) 1 (λ z. absurd (omega (arith, c.if-mask-eq0.true, z))) in
     (rw out, rw out, omega arith)
 
-pub returns-then-units-sum : goal.returns-then-units-sum
-unfolding sum_with least_with
-returns-then-units-sum c =
-    let in-set = eq-eqb (c.args.mask % 2) 1 (omega (arith, c.if-mask-eq0.false)) in
-    (rw in-set, rw in-set (omega arith), omega arith)
-
 pub returns : goal.returns
 unfolding sum_with least_with
 returns c =
     let in-set = eq-eqb (c.args.mask % 2) 1 (omega (arith, c.if-mask-eq0.false)) in
-    (rw in-set, rw in-set (omega arith), omega arith)
+    (rw in-set, rw in-set c.min.ensures, omega arith)

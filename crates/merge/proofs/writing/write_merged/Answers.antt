@@ -1,7 +1,8 @@
 -- `merge::writing::write_merged` meets its contract: its parts, written one after the other, are the merged set.
-use Prim.Native.Nat.{◌+◌, ◌≤◌}
+use Prim.Native.Nat.{ℕ, ◌+◌, ◌≤◌}
 use native.Mathlib.Omega.{arith}
 use mathlib.Core.Path.{◌≡◌, sym, ◌∙◌}
+use mathlib.Core.List.{List}
 use lib.ListN.{length, length-map}
 use Rattle.model.specs.Set.{at}
 use Rattle.set_writer.specs.Renamed.{renamed_word}
@@ -12,10 +13,13 @@ use Rattle.merge.proofs.writing.write_merged.Goals as goal
 
 -- what is known at the start
 module _ (c : Start) where
-  known : Parts c.args.shared c.args.first.now c.args.one c.args.second.now c.args.two
-  known = parts c.requires.pair
+  known : Parts c.args.shared c.args.first.now c.args.second.now
+  known = parts _ _ _ c.requires.shares
 
-  room : length (merged_words c.args.shared c.args.first.now c.args.second.now) ≤ length c.args.slice.now
+  abbrev all_words : List ℕ
+  all_words = merged_words c.args.shared c.args.first.now.words.now c.args.second.now.words.now
+
+  room : length all_words ≤ length c.args.slice.now
   room = c.requires.second_in_bounds
 
 pub overflow_sub-end : goal.overflow_sub-end
@@ -118,7 +122,7 @@ pub write_end-requires : goal.write_end-requires
 write_end-requires c =
     let s = (goal.at.write_end-requires c).Start in
     let k = known s in
-    let end : c.write_tasks-to.result + 1 ≡ length (merged_words c.args.shared c.args.first.now c.args.second.now) =
+    let end : c.write_tasks-to.result + 1 ≡ length (all_words s) =
     omega (
       arith,
       c.write_words-own.ensures.value,
@@ -142,12 +146,12 @@ returns c =
     let x = c.write_words-tasks.ensures in
     let y = c.write_words-more.ensures in
     let z = c.write_tasks-to.ensures in
-    let last : c.write_tasks-to.result + 1 ≡ length (merged_words a.shared a.first.now a.second.now) =
+    let last : c.write_tasks-to.result + 1 ≡ length (all_words s) =
     omega (arith, w.value, x.value, y.value, z.value, k.first-devices, k.own-devices, k.first-tasks, k.second-tasks, k.all) in
-    let one = then_written (nothing {slice = a.slice.now}) (all_devices_in a.first.now a.one) w.out_after w.value (omega (arith, last, room s, x.value, y.value, z.value)) in
-    let two = then_written one (devices_in a.shared a.second.now a.two) x.out_after x.value (omega (arith, last, room s, y.value, z.value)) in
-    let three = then_written two (tasks_in a.first.now a.one) y.out_after y.value (omega (arith, last, room s, z.value)) in
-    let four = then_written three (new_tasks s.requires.pair c.number_devices-numbers.result) z.out_after
-    (rw (length-map (tasks_in a.second.now a.two) (renamed_word (at c.number_devices-numbers.result))) z.value) (omega (arith, last, room s)) in
-    let all = ended four c.write_end.ensures.out_after (omega (arith, last, room s)) _ (whole s.requires.pair c.number_devices-numbers.result c.number_devices-numbers.ensures) in
+    let one = then_written (nothing {slice = a.slice.now}) (all_devices_in a.first.now) w.out_after w.value (omega (arith, last, room s, x.value, y.value, z.value)) in
+    let two = then_written one (devices_in a.shared a.second.now) x.out_after x.value (omega (arith, last, room s, y.value, z.value)) in
+    let three = then_written two (tasks_in a.first.now) y.out_after y.value (omega (arith, last, room s, z.value)) in
+    let four = then_written three (new_tasks a.shared a.first.now a.second.now c.number_devices-numbers.result) z.out_after
+    (rw (length-map (tasks_in a.second.now) (renamed_word (at c.number_devices-numbers.result))) z.value) (omega (arith, last, room s)) in
+    let all = ended four c.write_end.ensures.out_after (omega (arith, last, room s)) _ (whole a.shared a.first.now a.second.now c.number_devices-numbers.result s.requires.shares c.number_devices-numbers.ensures) in
     record { value = c.write_end.ensures.value ∙ all.0; slice_after = all.1 }

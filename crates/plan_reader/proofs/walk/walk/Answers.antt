@@ -1,35 +1,54 @@
--- `plan_reader::walk::walk` meets its contract: a loop over a struct that holds the slice. Each turn passes a copy of it to `take`, and puts the one that `next` returns in its place. All that
--- is known of the callees is that each meets its contract.
-use Rattle.std.proofs.Common.{◌≡◌, ℕ, List, sym, ap, ◌∙◌, arith}
-use Rattle.std.specs.Borrow.{Bor}
-use Rattle.plan_reader.specs.Walk.{taken}
-use Rattle.plan_reader.proofs.Turns.{turn-keeps, turn-within, turn-over}
+-- `plan_reader::walk::walk` meets its contract: each word that is taken keeps what the invariant says, and what ends the walk is the answer.
+use Rattle.std.proofs.Common.{sym, ◌∙◌, arith, rules}
+use Rattle.refusals.specs.Answers as refusals
+use Rattle.refusals.specs.Answers.{answer_of}
+use Rattle.plan_reader.proofs.Ends.{begins, end_missing, side-turn, head-turn, end-turn, taken-keeps, refused-told}
+use Rattle.plan_reader.proofs.walk.walk.Goals.{then-task-tasks+in_ok-seen, else-task-tasks+else-has_kind+in_ok-seen-2}
 use Rattle.plan_reader.proofs.walk.walk.Goals as goal
 
--- before the first turn: the struct at the first word, and nothing seen
-pub loop-s-init : goal.loop-s-init
-loop-s-init c =
-    let (words, at) = c.first-plan.ensures in
-    record { same = ap (λ (z : Bor (List ℕ)). z.now) words; kept = rw (at, c.before-s.ensures); within = λ h. omega arith }
+pub loop-at-init : goal.loop-at-init
+loop-at-init c = rw c.before-seen.ensures (begins c.args.tasks c.args.state c.args.plan.now (omega arith) (omega arith))
 
--- after a turn: the struct at the next word, and what was seen once this one was taken
-pub loop-s-preserved : goal.loop-s-preserved
-loop-s-preserved c =
-    let n = c.args.tasks in
-    let x = c.args.state in
-    let ws = c.args.words.now in
-    let o = c.loop-s in
-    let (words, at) = c.next-plan.ensures in
-    let here : c.take-s.result ≡ taken n x ws o.plan.at o.s =
-    c.take-s.ensures ∙ ap (λ (z : List ℕ). taken n x z o.plan.at o.s) o.invariant.same in
-    record {
-      same = ap (λ (z : Bor (List ℕ)). z.now) words ∙ o.invariant.same;
-      kept = rw (at, here) (turn-keeps n x ws o.s o.plan.at c.loop-s-test.true ∙ o.invariant.kept);
-      within = λ h. rw at (turn-within n x ws o.s o.plan.at (rw here at h));
-    }
+pub loop-at-preserved : goal.loop-at-preserved
+loop-at-preserved c =
+    let o = c.loop-at in
+    elim c.if-task-tasks.branch [
+      | then-task-tasks+in_ok-seen w ↦
+          rw w.seen-is
+          (taken-keeps _ _ _ o.seen o.at (omega arith) (omega arith) _
+          (rw w.take_side.ensures (side-turn _ _ _ o.seen o.at (omega arith) (omega arith) (omega arith) (omega arith))) _ w.in_ok-seen.was ∙ o.invariant)
+      | else-task-tasks+else-has_kind+in_ok-seen-2 w ↦
+          rw w.seen-is
+          (taken-keeps _ _ _ o.seen o.at (omega arith) (omega arith) _
+          (rw w.take_head.ensures (head-turn _ _ _ o.seen o.at (omega arith) (omega arith) (omega arith) (omega arith) (sym w.has_kind.ensures ∙ w.if-has_kind.false))) _
+          w.in_ok-seen-2.was
+          ∙ o.invariant)
+    ]
 
--- a walk that is over has seen what it will
+pub returns-in_err-seen : goal.returns-in_err-seen
+returns-in_err-seen c =
+    let o = c.loop-at in
+    refused-told c.args.tasks c.args.state c.args.plan.now o.seen o.at (omega arith) (omega arith) _
+    (rw c.take_side.ensures (side-turn _ _ _ o.seen o.at (omega arith) (omega arith) (omega arith) (omega arith))) c.in_err-seen.field-0.0 _ c.in_err-seen.was (search rules)
+    ∙ o.invariant
+
+pub returns-in_err-seen-2 : goal.returns-in_err-seen-2
+returns-in_err-seen-2 c =
+    let o = c.loop-at in
+    refused-told c.args.tasks c.args.state c.args.plan.now o.seen o.at (omega arith) (omega arith) _
+    (rw c.take_head.ensures (head-turn _ _ _ o.seen o.at (omega arith) (omega arith) (omega arith) (omega arith) (sym c.has_kind.ensures ∙ c.if-has_kind.false)))
+    c.in_err-seen-2.field-0.0 _ c.in_err-seen-2.was (search rules)
+    ∙ o.invariant
+
+pub returns-then-has_kind : goal.returns-then-has_kind
+returns-then-has_kind c =
+    let o = c.loop-at in
+    rw c.take_end.ensures
+    (end-turn c.args.tasks c.args.state c.args.plan.now o.seen o.at (omega arith) (omega arith) (omega arith) (omega arith) (sym c.has_kind.ensures ∙ c.if-has_kind.true)
+    ∙ o.invariant)
+
 pub returns : goal.returns
+unfolding answer_of refusals.number_of
 returns c =
-    let o = c.loop-s in
-    sym (turn-over c.args.tasks c.args.state c.args.words.now o.s o.plan.at c.loop-s-test.false) ∙ o.invariant.kept
+    let o = c.loop-at in
+    rw c.at.ensures (sym (end_missing c.args.tasks c.args.state c.args.plan.now o.seen o.at (omega arith)) ∙ o.invariant)

@@ -1,16 +1,8 @@
--- `plan_reader::walk::walk` meets its contract. The loop's invariant: the struct holds the slice passed, and what will be seen in the end is what the contract says. Its variant: the words from
--- the struct's index on.
-use Rattle.std.proofs.Common.{◌≡◌, ◌+◌, ◌-◌, ◌≤◌, true, length}
-use Rattle.plan_reader.specs.Walk.{before, seen_from}
-use Rattle.plan_reader.proofs.Turns.{in_the_end}
+-- `plan_reader::walk::walk` meets its contract. The loop's invariant: by what was seen so far, the words from here on have the answer of the whole plan.
+use Rattle.std.proofs.Common.{◌≡◌, drop}
+use Rattle.model.specs.StoredPlan.{locate}
+use Rattle.plan_reader.proofs.Ends.{answer_at}
 use Rattle.plan_reader.proofs.walk.walk.Given as goal
 
-abbrev pub invariant-loop-s : goal.invariant-loop-s
-invariant-loop-s l = record {
-  same : l.plan.words.now ≡ l.words;
-  kept : in_the_end l.tasks l.state l.words l.s l.plan.at ≡ seen_from l.tasks l.state (length l.words) (before l.tasks) 0 l.words;
-  within : l.s.going ≡ true → l.plan.at ≤ length l.words;
-}
-
-abbrev pub decreases-loop-s : goal.decreases-loop-s
-decreases-loop-s l = length l.words + 1 - l.plan.at
+abbrev pub invariant-loop-at : goal.invariant-loop-at
+invariant-loop-at l = answer_at l.tasks l.state l.seen l.at (drop l.at l.plan) ≡ locate l.state l.plan l.tasks

@@ -1,5 +1,5 @@
 -- `reader::rules::first_unclaimed` meets its contract. The invariant: each device before d is claimed.
-use Prim.Native.Nat.{ℕ, ◌-◌, ◌≤◌, ◌<◌}
+use Prim.Native.Nat.{ℕ, ◌≤◌, ◌<◌}
 use mathlib.Core.Path.{◌≡◌}
 use mathlib.Core.Bool.{Bool, false, not}
 use mathlib.Core.List.{List}
@@ -11,6 +11,3 @@ unclaimed l d = not (get_or l d false)
 
 abbrev pub invariant-loop-d : goal.invariant-loop-d
 invariant-loop-d l = (l.d ≤ l.devices) × ((t : ℕ) → t < l.d → unclaimed l.claimed t ≡ false)
-
-abbrev pub decreases-loop-d : goal.decreases-loop-d
-decreases-loop-d l = l.devices - l.d

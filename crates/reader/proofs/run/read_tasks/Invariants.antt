@@ -3,13 +3,14 @@ use Prim.Native.Nat.{◌-◌}
 use mathlib.Core.Path.{◌≡◌}
 use lib.ListN.{length}
 use Rattle.model.specs.Set.{at}
-use Rattle.reader.specs.Follow.{Reached, scanned, NoAction}
+use Rattle.reader.specs.Follow.{Reached, NoAction}
 use Rattle.reader.proofs.run.read_tasks.Given as goal
 
 abbrev pub invariant-loop-i : goal.invariant-loop-i
 invariant-loop-i l =
-    (l.tasks ≡ 0 → l.i ≡ l.from) × NoAction l.words l.devices l.capacities l.tasks (at l.lengths (l.tasks - 1)) l.held l.i
-    × Reached l.words (scanned l.devices l.capacities l.tasks l.lengths l.starts l.held l.claimed) l.i
+    let s = l.scan in
+    (s.devices ≡ l.initial.scan.devices) × (s.tasks ≡ 0 → l.i ≡ l.initial.scan.devices)
+    × NoAction l.words s.devices s.capacities s.tasks (at s.lengths (s.tasks - 1)) s.held l.i × Reached l.words s l.i
 
 abbrev pub decreases-loop-i : goal.decreases-loop-i
 decreases-loop-i l = length l.words - l.i

@@ -1,27 +1,29 @@
--- `records::counts::total` meets its contract. The invariant: with the counts from t on, `sum` is the whole sum; and it is small enough to grow.
-use Rattle.std.proofs.Common.{◌≡◌, ℕ, ◌+◌, ◌<◌, ◌≤◌, List, length, drop, add-one, arith, drop_of_length-le, drop-cons, w8, Fits, rules}
+-- `records::counts::total` meets its contract: eight counts of at most 255 have a sum that fits.
+use Rattle.std.proofs.Common.{◌≡◌, ℕ, List, [], ◌∷◌, length, ◌∙◌, arith, rules, Fits, w8, refl}
+use borrow.Author.Tests.{tests}
+use Rattle.std.specs.List.{sum}
+use Rattle.std.proofs.lemmas.Iterator.{YieldsList-from_slice, YieldsList-from_map}
+use Rattle.std.proofs.lemmas.Iterator.Consumers.{sum_from_yields_List, fits_from_yields_list}
+use Rattle.std.proofs.lemmas.List.Sums.{sum_by-le, sum_by-cons, sum-map}
+use Rattle.std.proofs.lemmas.Grind.{get_or_default_zero}
 use Rattle.model.specs.Set.{at}
 use Rattle.model.specs.State as model
-use Rattle.records.proofs.counts.total.Goals.{In-loop-t}
 use Rattle.records.proofs.counts.total.Goals as goal
 
--- one more count, and none left
-sum_drop : (counts : List ℕ) (t : ℕ) → t < length counts → model.sum (drop t counts) ≡ at counts t + model.sum (drop (t + 1) counts)
+-- the sums of the library and of the model
+same : (counts : List ℕ) → sum counts ≡ model.sum counts
 unfolding model.sum
-sum_drop counts t h = rw (drop-cons counts t 0 h, add-one t)
+same [] = refl
+same (n ∷ counts) = rw (sum_by-cons (λ x. x) n counts, same counts)
 
-whole : (counts : List ℕ) (t k : ℕ) → length counts ≤ t → k + model.sum (drop t counts) ≡ model.sum counts → k ≡ model.sum counts
-unfolding model.sum
-whole counts t k h e = let z = rw (drop_of_length-le counts {i = t} h) at e in omega arith
-
-count : (c : In-loop-t) → at c.args.counts c.loop-t.t < 256
-count c = let b : Fits w8 (at c.args.counts c.loop-t.t) = search rules in b.fits
-
-pub loop-t-preserved : goal.loop-t-preserved
-loop-t-preserved c =
-    let k = c.loop-t in
+pub sum-requires-clause-fits : goal.sum-requires-clause-fits
+sum-requires-clause-fits c =
     let counts = c.args.counts in
-    (k.invariant.0, search rules, omega (arith, count (goal.at.loop-t-preserved c).In-loop-t), omega (arith, k.invariant.3, sum_drop counts k.t (omega arith)))
+    let eight : length counts ≡ 8 = search rules in
+    let low = sum_by-le (λ x. x) 255 counts (λ k d h. let b : Fits w8 (at counts k) = search rules in omega (arith, b.fits, get_or_default_zero counts k d h)) in
+    fits_from_yields_list c.map.result _ (YieldsList-from_map _ (λ x. x) (YieldsList-from_slice counts cc) c.map.ensures.closure (λ x r q k. search (rules, tests))) (rw (sum-map (λ x. x) counts) (omega arith))
 
 pub returns : goal.returns
-returns c = let k = c.loop-t in whole c.args.counts k.t k.sum (omega arith) k.invariant.3
+returns c =
+    sum_from_yields_List c.map.result c.sum.result c.sum.ensures.ran (YieldsList-from_map _ (λ x. x) (YieldsList-from_slice c.args.counts cc) c.map.ensures.closure (λ x r q k. search (rules, tests)))
+    ∙ sum-map (λ x. x) c.args.counts ∙ same c.args.counts

@@ -1,135 +1,203 @@
 -- `trial::bidding::bid_rounds` meets its contract: each bid keeps what `Trying` says, and each way out is one of its laws.
+use borrow.Author.Rules.{rules}
 use Prim.Native.Nat.{ℕ, ◌+◌, ◌<◌}
 use native.Mathlib.Omega.{arith}
-use mathlib.Core.Path.{◌≡◌, sym, ap, subst, ◌∙◌}
-use mathlib.Core.Bool.{true, cond}
+use mathlib.Core.Path.{◌≡◌, refl, sym, ap, subst, ◌∙◌}
+use mathlib.Core.Bool.{true, false, cond}
+use Rattle.std.specs.Prelude.{Ok}
+use Rattle.std.proofs.lemmas.Result.{err_from_is_err_and}
 use Rattle.model.specs.Set.{lengths_of, at}
 use Rattle.model.specs.State.{is_end}
 use Rattle.model.specs.Record.{state_in}
-use Rattle.model.specs.Read.{set_in}
-use Rattle.model.specs.Answer.{Answer, given, if_given}
-use Rattle.model.specs.Broker.{Bid, is_granted, bid_answer, grant}
-use Rattle.broker.specs.Says.{settings_of, bid_of}
-use Rattle.records.specs.Says.{record_of}
-use Rattle.broker.proofs.BidCases.{granted-rises}
-use Rattle.broker.proofs.Granted.{not-refused}
-use Rattle.broker.proofs.Moved.{granted-ranked}
+use Rattle.model.specs.Answer.{Answer, given}
+use Rattle.model.specs.Broker as model
+use Rattle.model.specs.Broker.{is_granted, bid_answer, grant}
+use Rattle.model.specs.Trial.{no_bids, is_finished}
+use Rattle.model.proofs.Bools.{by_bool}
+use Rattle.model.proofs.Counts.{byte-cond, byte_small}
 use Rattle.model.proofs.Ranks.{rank_lt}
+use Rattle.refusals.specs.Answers.{answer_of}
+use Rattle.shape.specs.SetOf.{set_of}
 use Rattle.shape.proofs.Declared.{few-tasks}
+use Rattle.shape.proofs.WereRead.{accepted}
+use Rattle.records.specs.Says.{record_of}
 use Rattle.records.specs.Ranked.{Ranked}
 use Rattle.records.proofs.Placed.{ranked-grid}
-use Rattle.trial.specs.Says.{trial_of}
+use Rattle.broker.specs.declared.answers.Bid.{Bid}
+use Rattle.broker.specs.declared.answers.Bid.TheVariants.{Granted, Finished, ShareSpent, Busy, Held}
+use Rattle.broker.specs.Says.{settings_of, named, bid_of}
+use Rattle.broker.proofs.BidCases.{granted-rises}
+use Rattle.broker.proofs.Granted.{not-granted}
+use Rattle.broker.proofs.Moved.{granted-ranked}
+use Rattle.trial.specs.declared.tallies.Tally.{Tally}
 use Rattle.trial.proofs.Kept.{Keeps, keeps-none, keeps-more}
-use Rattle.trial.proofs.Trying.{tells, begins, over, stops, refuses, moves}
-use Rattle.trial.proofs.bidding.bid_rounds.Goals.{Joined-is_granted, then-is_granted, else-is_granted, then-is_granted-2, else-is_granted-2}
+use Rattle.trial.proofs.Trying.{tally_of, begins, next-lap, over, stops, refuses, made-small, moves}
+use Rattle.trial.proofs.bidding.bid_rounds.Goals.{After-eq, After-eq-in-loop-task, Joined-eq, in-Some, in-None+in_ok-bid-in-None, then-eq, else-eq}
 use Rattle.trial.proofs.bidding.bid_rounds.Goals as goal
 
--- the task that bids, and what it is answered on the set
-abbrev task : Joined-is_granted → ℕ
-task c = at c.args.order.now c.loop-made.place
+-- a row of zeros is that of no bids
+no-bids : (k : Tally) → (k.granted ≡ 0) × ((k.busy ≡ 0) × ((k.held ≡ 0) × (k.share_spent ≡ 0))) → k ≡ tally_of no_bids
+no-bids k zero =
+    let e : ◌≡◌ {A = Tally} (record { granted = k.granted; busy = k.busy; held = k.held; share_spent = k.share_spent }) (tally_of no_bids) =
+    rw (zero.0, zero.1.0, zero.1.1.0, zero.1.1.1) in e
 
-abbrev answer-of : Joined-is_granted → Answer Bid
+not_finished : (b : Bid) → (b ≡ Finished → ⊥) → is_finished (named b) ≡ false
+unfolding is_finished named
+not_finished Granted other = refl
+not_finished Finished other = absurd (other refl)
+not_finished ShareSpent other = refl
+not_finished (Busy d) other = refl
+not_finished (Held r) other = refl
+
+-- the task that bids, and what it is answered on the set
+abbrev task : After-eq → ℕ
+task c = at c.args.order.now c.loop-task.task-index
+
+abbrev answer-of : After-eq → Answer model.Bid
 answer-of c =
     let a = c.args in
-    bid_answer (set_in a.words.now) a.map.now (settings_of a.settings) (record_of c.loop-made.rec) (task c)
+    bid_answer (set_of a.set.now) a.map.now (settings_of a.settings) (record_of c.loop-task.rec) (task c)
 
 -- it is one of the set's
-task-of : (c : Joined-is_granted) → task c < 8
+task-of : (c : After-eq) → task c < 8
 task-of c =
-    let p = c.requires in
-    omega (arith, p.6 c.loop-made.place c.loop-made.invariant.1.inside, few-tasks p.1)
+    omega (arith, c.requires.order_fits.2 c.loop-task.task-index c.loop-task-test.true, few-tasks c.args.set.now.declares)
 
 -- what it is answered: as is kept, or, where nothing is, by the broker; and that is kept
-asked : (c : Joined-is_granted) → (
+asked : (c : After-eq) → (
     let a = c.args in
-    (bid_of c.if-is_granted.answer ≡ answer-of c)
-    × Keeps (bid_answer (set_in a.words.now) a.map.now (settings_of a.settings) (record_of c.loop-made.rec)) c.if-is_granted.kept)
+    (bid_of (Ok c.match-kept-task.bid) ≡ answer-of c)
+    × Keeps (bid_answer (set_of a.set.now) a.map.now (settings_of a.settings) (record_of c.loop-task.rec)) c.match-kept-task.kept)
 asked c =
-    let k = c.loop-made.invariant.2 in
-    elim c.if-is_granted.branch [
-      | then-is_granted w ↦ (
-        ap bid_of w.answer-is ∙ w.answer_at-answer.ensures,
-        subst (Keeps _) (sym w.kept-is) (keeps-more k (task c) (task-of c) _ w.answer_at-answer.ensures),
+    let k = c.loop-task.invariant.1 in
+    elim c.match-kept-task.branch [
+      | in-Some w ↦
+          (ap (λ b. bid_of (Ok b)) w.bid-is ∙ k.right (task c) _ w.in-Some.is, subst (Keeps _) (sym w.kept-is) k)
+      | in-None+in_ok-bid-in-None w ↦ (
+        ap (λ b. bid_of (Ok b)) w.bid-is ∙ w.in_ok-bid-in-None.ensures,
+        subst (Keeps _) (sym w.kept-is) (keeps-more k (task c) (task-of c) _ w.in_ok-bid-in-None.ensures),
       )
-      | else-is_granted w ↦
-          (ap bid_of w.answer-is ∙ k.right (task c) (sym c.is_granted.ensures ∙ w.if-is_granted.false), subst (Keeps _) (sym w.kept-is) k)
     ]
 
--- where it is granted
-goes : (c : Joined-is_granted) → is_granted (bid_of c.if-is_granted.answer) ≡ true → is_granted (answer-of c) ≡ true
-goes c e = ap is_granted (sym (asked c).0) ∙ e
+-- the code's test tells whether it is granted
+says : (c : After-eq) → is_granted (bid_of (Ok c.match-kept-task.bid)) ≡ c.eq.result
+unfolding is_granted answer_of named
+says c =
+    by_bool c.eq.result
+    (λ e.
+    let is : c.match-kept-task.bid ≡ Granted = search (rules, c.eq.ensures, e) in
+    ap (λ b. is_granted (bid_of (Ok b))) is ∙ sym e)
+    (λ e.
+    let other : c.match-kept-task.bid ≡ Granted → ⊥ = λ q. search (rules, q, c.eq.ensures, e) in
+    not-granted _ other ∙ sym e)
 
-pub loop-made-init : goal.loop-made-init
-loop-made-init c =
+goes : (c : After-eq) → c.eq.result ≡ true → is_granted (answer-of c) ≡ true
+goes c e = ap is_granted (sym (asked c).0) ∙ says c ∙ e
+
+-- and whether it is Finished
+says_finished : (c : After-eq-in-loop-task) → is_finished (named c.match-kept-task.bid) ≡ c.eq-in-loop-task.result
+unfolding is_finished named
+says_finished c =
+    by_bool c.eq-in-loop-task.result
+    (λ e.
+    let is : c.match-kept-task.bid ≡ Finished = search (rules, c.eq-in-loop-task.ensures, e) in
+    ap (λ b. is_finished (named b)) is ∙ sym e)
+    (λ e.
+    let other : c.match-kept-task.bid ≡ Finished → ⊥ = λ q. search (rules, q, c.eq-in-loop-task.ensures, e) in
+    not_finished _ other ∙ sym e)
+
+-- the number of bids fits
+fits : (c : Joined-eq) → c.loop-task.made < 4294967295
+fits c =
+    made-small _ _ _ _ _ _ c.loop-task.invariant.0 c.loop-test.true c.loop-task-test.true (omega (arith, c.ranges.rounds.fits)) c.requires.order_fits.1
+
+pub loop-init : goal.loop-init
+loop-init c =
+    let d = c.args.set.now.declares in
     let f = c.fresh-rec.ensures in
-    let s = set_in c.args.words.now in
-    let e = c.at_end-ended.ensures _ _ c.requires.1 ∙ ap (λ r. is_end (lengths_of s) (state_in s r)) f in
-    (omega arith, rw (f, c.none-rows.ensures) (begins _ _ _ _ _ _ c.requires.1.well_formed c.requires.2 c.requires.4 _ e), keeps-none _)
+    let s = set_of c.args.set.now in
+    let e = c.at_end-ended.ensures _ _ d ∙ ap (λ r. is_end (lengths_of s) (state_in s r)) f in
+    (rw (f, no-bids c.default-rows.result c.default-rows.ensures) (begins _ _ _ _ _ _ d.well_formed c.requires.map_fits _ e), keeps-none _)
 
 pub returns-then-ended : goal.returns-then-ended
+unfolding answer_of
 returns-then-ended c =
-    c.tried.ensures ∙ tells _ _ _ ∙ ap trial_of (sym (stops _ _ _ _ _ _ c.loop-made.invariant.1 (omega arith) c.if-ended.true))
+    sym (stops _ _ _ _ _ _ c.loop-task.invariant.0 c.loop-test.true c.loop-task-test.true c.if-ended.true)
 
-pub returns-in-Refused : goal.returns-in-Refused
-unfolding bid_of
-returns-in-Refused c =
-    c.refuse.ensures
-    ∙ ap trial_of (sym (refuses _ _ _ _ _ _ c.loop-made.invariant.1 (omega arith) c.requires.0 c.if-ended.false _ _
-    (sym (asked (goal.at.returns-in-Refused c).Joined-is_granted).0 ∙ ap bid_of c.in-Refused.is)))
+pub returns-in_err-bid-in-None : goal.returns-in_err-bid-in-None
+unfolding answer_of
+returns-in_err-bid-in-None c =
+    let p = err_from_is_err_and c.from_residual.result c.from_residual.ensures.1 in
+    rw (p.1, p.2) (sym (refuses _ _ _ _ _ _ c.loop-task.invariant.0 c.loop-test.true c.loop-task-test.true (accepted c.args.set.now.declares)
+    c.if-ended.false _ _ (sym c.in_err-bid-in-None.ensures)))
 
 pub granted-rec-requires : goal.granted-rec-requires
 granted-rec-requires c =
-    let j = (goal.at.granted-rec-requires c).Joined-is_granted in
-    granted-rises _ c.requires.1.well_formed _ _ _ (task j) (goes j (sym c.is_granted-in-loop-made.ensures ∙ c.if-is_granted-2.true))
+    let j = (goal.at.granted-rec-requires c).After-eq in
+    granted-rises _ c.args.set.now.declares.well_formed _ _ _ (task j) (goes j c.if-eq.true)
 
 pub overflow_add-rank : goal.overflow_add-rank
 overflow_add-rank c =
-    let j = (goal.at.overflow_add-rank c).Joined-is_granted in
-    let p = c.requires in
-    let g = granted-ranked p.1 c.loop-made.invariant.1.ranked (settings_of c.args.settings) (task j) (goes j (sym c.is_granted-in-loop-made.ensures ∙ c.if-is_granted-2.true)) in
-    record { fits = omega (arith, g.ranked, rank_lt _ _ (ranked-grid p.1 g), p.1.well_formed.grid) }
+    let j = (goal.at.overflow_add-rank c).After-eq in
+    let d = c.args.set.now.declares in
+    let g = granted-ranked d c.loop-task.invariant.0.ranked (settings_of c.args.settings) (task j) (goes j c.if-eq.true) in
+    record { fits = omega (arith, g.ranked, rank_lt _ _ (ranked-grid d g), d.well_formed.grid) }
 
-pub loop-made-preserved : goal.loop-made-preserved
-unfolding if_given
-loop-made-preserved c =
-    let j = (goal.at.loop-made-preserved c).Joined-is_granted in
+pub overflow_add-made : goal.overflow_add-made
+overflow_add-made c = record { fits = omega (arith, fits c) }
+
+pub with-requires : goal.with-requires
+with-requires c =
+    let j = goal.at.with-requires c in
+    let s = c.loop-task.invariant.0.small (task j.After-eq) in
+    let l = fits j.Joined-eq in
+    (omega (arith, s.granted-small, l), omega (arith, s.busy-small, l), omega (arith, s.held_small, l), omega (arith, s.spent-small, l))
+
+pub overflow_add-finished : goal.overflow_add-finished
+overflow_add-finished c =
+    record { fits = omega (arith, byte_small c.eq-in-loop-task.result, c.loop-task.invariant.0.few, fits (goal.at.overflow_add-finished c).Joined-eq) }
+
+pub loop-task-preserved : goal.loop-task-preserved
+unfolding answer_of
+loop-task-preserved c =
+    let j = (goal.at.loop-task-preserved c).After-eq in
     let a = c.args in
-    let p = c.requires in
-    let l = c.loop-made in
-    -- a bid that is not refused has a value
-    let v = not-refused c.if-is_granted.answer c.in_default.not-Refused in
-    let answered : answer-of j ≡ given v.0 = sym (asked j).0 ∙ v.1 in
-    let says : is_granted (given v.0) ≡ c.is_granted-in-loop-made.result = ap is_granted (sym v.1) ∙ sym c.is_granted-in-loop-made.ensures in
+    let d = a.set.now.declares in
+    let l = c.loop-task in
+    let b = named c.match-kept-task.bid in
+    let answered : answer-of j ≡ given b = sym (asked j).0 in
     -- the record, its rank and whether every task is finished, as the bid leaves them
-    let q : (record_of c.if-is_granted-2.rec ≡ cond (is_granted (given v.0)) (grant a.settings.window (record_of l.rec) (task j)) (record_of l.rec))
-    × Ranked (set_in a.words.now) a.map.now (record_of c.if-is_granted-2.rec) c.if-is_granted-2.rank
-    × (c.if-is_granted-2.ended ≡ is_end (lengths_of (set_in a.words.now)) (state_in (set_in a.words.now) (record_of c.if-is_granted-2.rec)))
-    × Keeps (bid_answer (set_in a.words.now) a.map.now (settings_of a.settings) (record_of c.if-is_granted-2.rec)) c.if-is_granted-2.kept =
-    elim c.if-is_granted-2.branch [
-      | then-is_granted-2 w ↦
-          (let g : is_granted (answer-of j) ≡ true = ap is_granted answered ∙ says ∙ w.if-is_granted-2.true in
-          rw (w.rec-is, w.rank-is, w.ended-is, w.kept-is) (
-            rw (says ∙ w.if-is_granted-2.true) w.granted-rec.ensures,
-            rw w.granted-rec.ensures (granted-ranked p.1 l.invariant.1.ranked (settings_of a.settings) (task j) g),
-            w.at_end-ended-then-is_granted-2.ensures _ _ p.1,
+    let q : (record_of c.if-eq.rec ≡ cond (is_granted (given b)) (grant a.settings.window (record_of l.rec) (task j)) (record_of l.rec))
+    × Ranked (set_of a.set.now) a.map.now (record_of c.if-eq.rec) c.if-eq.rank
+    × (c.if-eq.ended ≡ is_end (lengths_of (set_of a.set.now)) (state_in (set_of a.set.now) (record_of c.if-eq.rec)))
+    × Keeps (bid_answer (set_of a.set.now) a.map.now (settings_of a.settings) (record_of c.if-eq.rec)) c.if-eq.kept =
+    elim c.if-eq.branch [
+      | then-eq w ↦
+          (rw (w.rec-is, w.rank-is, w.ended-is, w.kept-is) (
+            rw (says j ∙ w.if-eq.true) w.granted-rec.ensures,
+            rw w.granted-rec.ensures (granted-ranked d l.invariant.0.ranked (settings_of a.settings) (task j) (goes j w.if-eq.true)),
+            w.at_end-ended-then-eq.ensures _ _ d,
             keeps-none _,
           ))
-      | else-is_granted-2 w ↦
+      | else-eq w ↦
           (rw (w.rec-is, w.rank-is, w.ended-is, w.kept-is) (
-            rw (says ∙ w.if-is_granted-2.false),
-            l.invariant.1.ranked,
-            l.invariant.1.is-ended,
+            rw (says j ∙ w.if-eq.false),
+            l.invariant.0.ranked,
+            l.invariant.0.is-ended,
             (asked j).1,
           ))
     ] in (
-      omega arith,
-      moves _ _ _ _ _ _ l.invariant.1 (omega arith) p.0 c.if-ended.false v.0 answered
-          (record_of c.if-is_granted-2.rec) q.0 c.if-is_granted-2.rank q.1 c.if-is_granted-2.ended q.2 (task-of j)
-          c.row_with.result (rw v.1 at c.row_with.ensures)
-          _ (ap (λ (n : ℕ). l.finished + n) (rw v.1 at c.finished_by-finished.ensures.value)) _ c.next_place-place.ensures,
+      moves _ _ _ _ _ _ l.invariant.0 c.loop-test.true c.loop-task-test.true (accepted d) c.if-ended.false b answered
+          (record_of c.if-eq.rec) q.0 c.if-eq.rank q.1 c.if-eq.ended q.2 (task-of j)
+          c.with.result c.with.ensures
+          _ (ap (λ (n : ℕ). l.finished + n) (byte-cond c.eq-in-loop-task.result ∙ ap (λ x. cond x 1 0) (sym (says_finished (goal.at.loop-task-preserved c).After-eq-in-loop-task)))),
       q.3,
     )
 
+pub loop-preserved : goal.loop-preserved
+loop-preserved c =
+    (next-lap _ _ _ _ _ _ c.loop-task.invariant.0 (omega arith), c.loop-task.invariant.1)
+
 pub returns : goal.returns
-returns c =
-    c.tried-2.ensures ∙ tells _ _ _ ∙ ap trial_of (sym (over _ _ _ _ _ _ c.loop-made.invariant.1 (omega arith)))
+unfolding answer_of
+returns c = sym (over _ _ _ _ _ _ c.loop.invariant.0 (omega arith) refl)

@@ -1,6 +1,0 @@
--- `corpus::sums::bytes_sum` meets its contract. The loop counts up to the length and needs no invariant.
-use Rattle.std.proofs.Common.{◌-◌, length}
-use Rattle.corpus.proofs.sums.bytes_sum.Given as goal
-
-abbrev pub decreases-loop-i : goal.decreases-loop-i
-decreases-loop-i l = length l.slice - l.i

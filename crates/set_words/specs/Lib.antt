@@ -1,0 +1,2 @@
+-- The kinds of words by their numbers.
+pub mod Kinds
