@@ -1,6 +1,6 @@
 // What hosts are told: one struct of numbers for the answers of all calls.
 ghost use Rattle.std.specs.Prelude.{◌≡◌};
-ghost use Rattle.model.specs.Told.{tell, tell_reading, tell_analysis, tell_bid, tell_again, tell_location, tell_trial};
+ghost use Rattle.model.specs.Told.{tell, tell_analysis, tell_bid, tell_again, tell_location, tell_trial};
 ghost use Rattle.refusals.specs.Answers.{answer_of, number_of};
 ghost use Rattle.analysis.specs.Says.{planned_of};
 ghost use Rattle.broker.specs.Says.{bid_of, again_of};

@@ -1,5 +1,5 @@
 // The argument that is an order: task numbers with commas between them.
-ghost use Rattle.std.specs.Prelude.{◌≤◌, length, IfSome};
+ghost use Rattle.std.specs.Prelude.{IfSome};
 ghost use Rattle.io.specs.Counts.{IsPrefixLen};
 
 use crate::arguments::complain;

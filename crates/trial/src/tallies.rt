@@ -1,5 +1,5 @@
 // A task's row: how many of its bids were answered in each of four ways. Those answered Finished are counted beside the rows.
-ghost use Rattle.std.specs.Prelude.{◌≡◌, cond, ◌<◌, ◌≤◌};
+ghost use Rattle.std.specs.Prelude.{◌≡◌, ◌<◌, ◌≤◌};
 ghost use Rattle.model.specs.Trial.{row_with};
 ghost use Rattle.broker.specs.Says.{named};
 ghost use Rattle.trial.specs.Says.{tallied};
