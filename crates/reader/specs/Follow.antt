@@ -82,10 +82,10 @@ pub record Ended (ws : List ℕ) (s : Scan) : Type 0 where
   pub read : read_words ws ≡ given scan.set
   pub some : 0 < length ws
 
--- what all words come to: the first fault, or a whole set
-abbrev pub ReadsAll : List ℕ → Result Scan Refusal → Type 0
-ReadsAll ws (Ok s) = Ended ws s
-ReadsAll ws (Err r) = read_words ws ≡ refused (number_of r.reason) r.place
+-- what all words come to: the first fault, or a whole set, which is then in s
+abbrev pub ReadsAll : List ℕ → Scan → Result (Unit {0}) Refusal → Type 0
+ReadsAll ws s (Ok u) = Ended ws s
+ReadsAll ws s (Err r) = read_words ws ≡ refused (number_of r.reason) r.place
 
 -- the lowest number below n that passes f, none if none does
 abbrev pub lowest_found : ℕ → (ℕ → Bool) → Option ℕ

@@ -18,7 +18,7 @@ ghost use Rattle.reader.specs.Follow.{Closes};
 
 use refusals::{Reason, Refusal};
 pub use rules::Rules;
-use scan::Scan;
+use scan::{Scan, nothing};
 use shape::{AcceptedSet, Shape};
 use weights::Weights;
 
@@ -63,7 +63,8 @@ fn close(scan: &Scan, n: usize) -> Result<Reading, Refusal>
 pub fn read(words: &[u32], rules: Rules) -> Result<Reading, Refusal>
     ensures { answer_of (λ r. r) result ≡ answer (read_by (rules_of rules) words.now) }
 {
-    let scan = words::read_words(words)?;
+    let mut scan = nothing();
+    words::read_words(words, &mut scan)?;
     if let Some(device) = rules::unclaimed_device(rules, scan.devices, &scan.claimed) {
         return Err(Reason::UnclaimedDevice.at(device));
     }

@@ -35,8 +35,8 @@ returns-then-n-gt-MAX_WORDS c = rw (c.at-then-n-gt-MAX_WORDS.ensures, ne_eqb _ _
 
 pub read_runs-i-requires : goal.read_runs-i-requires
 read_runs-i-requires c = (
-  record { scan = nothing_read; limits = start-limits; same = c.nothing-scan.ensures; rest = started _ c.if-n-eq0.false c.if-n-gt-MAX_WORDS.false; within = search rules },
-  c.nothing-scan.ensures,
+  record { scan = nothing_read; limits = start-limits; same = c.requires; rest = started _ c.if-n-eq0.false c.if-n-gt-MAX_WORDS.false; within = search rules },
+  c.requires,
 )
 
 pub returns-then-n-i : goal.returns-then-n-i
