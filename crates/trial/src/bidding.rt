@@ -37,7 +37,7 @@ pub(crate) fn bid_rounds(
     let mut rows = [Tally::default(); model::MAX_TASKS];
     let mut finished: u64 = 0;
     for _ in 0..rounds {
-        for &task in order {
+        for place in 0..order.len() {
             if ended {
                 return Ok(Tried {
                     made,
@@ -45,14 +45,17 @@ pub(crate) fn bid_rounds(
                     finished,
                 });
             }
-            let task = task as usize;
+            let task = order[place] as usize;
             let bid = match kept[task] {
                 Some(bid) => bid,
-                None => {
-                    let bid = broker::answer_at(set, map, rec, rank, task, settings)?;
-                    kept[task] = Some(bid);
-                    bid
-                }
+                None => match broker::answer_at(set, map, rec, rank, task, settings) {
+                    Ok(bid) => {
+                        kept[task] = Some(bid);
+                        bid
+                    }
+                    // As it came, its place too.
+                    Err(refusal) => return Err(refusal),
+                },
             };
             if bid == Bid::Granted {
                 kept = [None; model::MAX_TASKS];

@@ -4,7 +4,7 @@ use native.Mathlib.Omega.{arith}
 use mathlib.Core.Path.{◌≡◌, sym, ◌∙◌}
 use mathlib.Core.List.{List}
 use lib.Count.{ones}
-use borrow.Author.Tests.{ltb-true}
+use borrow.Author.Tests.{le-ltb, ltb-false, ltb-true}
 use Rattle.plan_words.proofs.Run.{placed, full, passed, finished}
 use Rattle.forbidden_boxes.specs.Choices.{set_words, table_words}
 use Rattle.forbidden_boxes.proofs.Walked.{comes, none_left, set_at, too_large, small-enough}
@@ -23,7 +23,7 @@ this c =
     let a = c.args in
     let w = comes _ _ _ _ c.loop-mask.invariant.1 c.in-Some.ensures.steps in
     small-enough a.rows.now.sides a.rows.now.units a.rows.now.holds a.limit.header a.limit.capacity a.tasks a.most c.loop-mask.invariant.0 c.in-Some.mask w.this
-    (sym c.exceeds_by_more.ensures ∙ c.if-exceeds_by_more.false)
+    (le-ltb _ _ (omega (arith, ltb-false _ _ (sym c.exceeds_by_more.ensures ∙ c.if-exceeds_by_more.false))))
 
 pub returns-then-exceeds_by_more : goal.returns-then-exceeds_by_more
 unfolding table_words
@@ -33,7 +33,7 @@ returns-then-exceeds_by_more c =
     let f = boxes (goal.at.returns-then-exceeds_by_more c).Start in
     let w = comes _ _ _ _ o.invariant.1 c.in-Some.ensures.steps in
     let more = a.limit.capacity + 1 in
-    let large : more < ones c.in-Some.mask = ltb-true more (ones c.in-Some.mask) (sym c.exceeds_by_more.ensures ∙ c.if-exceeds_by_more.true) in
+    let large : more < ones c.in-Some.mask = omega (arith, ltb-true _ _ (sym c.exceeds_by_more.ensures ∙ c.if-exceeds_by_more.true)) in
     let here = rw w.this at large in
     finished f a.plan.now a.at 255
     (passed f a.plan.now a.at 255 o.invariant.2

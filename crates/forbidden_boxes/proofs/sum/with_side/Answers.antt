@@ -15,4 +15,4 @@ pub returns : goal.returns
 unfolding sum_with least_with
 returns c =
     let in-set = eq-eqb (c.args.mask % 2) 1 (omega (arith, c.if-mask-eq0.false)) in
-    (rw in-set, rw in-set c.min.ensures, omega arith)
+    (rw in-set, rw in-set (omega arith), omega arith)

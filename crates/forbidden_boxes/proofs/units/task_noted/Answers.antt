@@ -1,7 +1,7 @@
 -- `forbidden_boxes::units::task_noted` meets its contract. The invariant: the first p actions are noted.
-use Prim.Native.Nat.{max, ◌+◌, ◌<◌}
+use Prim.Native.Nat.{◌+◌, ◌<◌}
 use native.Mathlib.Omega.{arith}
-use mathlib.Core.Path.{◌≡◌, sym, ap, ◌∙◌}
+use mathlib.Core.Path.{◌≡◌, sym, ◌∙◌}
 use lib.ListN.{length}
 use Rattle.model.specs.Set.{units_taken, at}
 use Rattle.model.specs.Layout.{action_of}
@@ -59,7 +59,7 @@ loop-p-preserved c =
           let taken = w.units.ensures ∙ sym (claim-units _ (tells ∙ w.if-is_claim.true)) in
           rw w.most-is
           (one-noted words start a.most.now o.invariant d.ensures (omega (arith, d.ensures, (small (goal.at.loop-p-preserved c).In-loop-p).0))
-          (w.max.ensures ∙ ap (max (at o.most d.result)) taken))
+          (omega (arith, taken)))
       | else-is_claim w ↦
           rw w.most-is
           (none_more words start a.most.now o.invariant (release-units _ (tells ∙ w.if-is_claim.false)))

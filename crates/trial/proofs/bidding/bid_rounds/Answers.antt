@@ -5,7 +5,6 @@ use native.Mathlib.Omega.{arith}
 use mathlib.Core.Path.{◌≡◌, refl, sym, ap, subst, ◌∙◌}
 use mathlib.Core.Bool.{true, false, cond}
 use Rattle.std.specs.Prelude.{Ok}
-use Rattle.std.proofs.lemmas.Result.{err_from_is_err_and}
 use Rattle.model.specs.Set.{lengths_of, at}
 use Rattle.model.specs.State.{is_end}
 use Rattle.model.specs.Record.{state_in}
@@ -32,7 +31,7 @@ use Rattle.broker.proofs.Moved.{granted-ranked}
 use Rattle.trial.specs.declared.tallies.Tally.{Tally}
 use Rattle.trial.proofs.Kept.{Keeps, keeps-none, keeps-more}
 use Rattle.trial.proofs.Trying.{tally_of, begins, next-lap, over, stops, refuses, made-small, moves}
-use Rattle.trial.proofs.bidding.bid_rounds.Goals.{After-eq, After-eq-in-loop-task, Joined-eq, in-Some, in-None+in_ok-bid-in-None, then-eq, else-eq}
+use Rattle.trial.proofs.bidding.bid_rounds.Goals.{After-eq, After-eq-in-loop-place, Joined-eq, in-Some, in-None+in-Ok, then-eq, else-eq}
 use Rattle.trial.proofs.bidding.bid_rounds.Goals as goal
 
 -- a row of zeros is that of no bids
@@ -51,31 +50,31 @@ not_finished (Held r) other = refl
 
 -- the task that bids, and what it is answered on the set
 abbrev task : After-eq → ℕ
-task c = at c.args.order.now c.loop-task.task-index
+task c = at c.args.order.now c.loop-place.place
 
 abbrev answer-of : After-eq → Answer model.Bid
 answer-of c =
     let a = c.args in
-    bid_answer (set_of a.set.now) a.map.now (settings_of a.settings) (record_of c.loop-task.rec) (task c)
+    bid_answer (set_of a.set.now) a.map.now (settings_of a.settings) (record_of c.loop-place.rec) (task c)
 
 -- it is one of the set's
 task-of : (c : After-eq) → task c < 8
 task-of c =
-    omega (arith, c.requires.order_fits.2 c.loop-task.task-index c.loop-task-test.true, few-tasks c.args.set.now.declares)
+    omega (arith, c.requires.order_fits.2 c.loop-place.place (omega (arith, c.loop-place-test.true)), few-tasks c.args.set.now.declares)
 
 -- what it is answered: as is kept, or, where nothing is, by the broker; and that is kept
 asked : (c : After-eq) → (
     let a = c.args in
     (bid_of (Ok c.match-kept-task.bid) ≡ answer-of c)
-    × Keeps (bid_answer (set_of a.set.now) a.map.now (settings_of a.settings) (record_of c.loop-task.rec)) c.match-kept-task.kept)
+    × Keeps (bid_answer (set_of a.set.now) a.map.now (settings_of a.settings) (record_of c.loop-place.rec)) c.match-kept-task.kept)
 asked c =
-    let k = c.loop-task.invariant.1 in
+    let k = c.loop-place.invariant.1 in
     elim c.match-kept-task.branch [
       | in-Some w ↦
           (ap (λ b. bid_of (Ok b)) w.bid-is ∙ k.right (task c) _ w.in-Some.is, subst (Keeps _) (sym w.kept-is) k)
-      | in-None+in_ok-bid-in-None w ↦ (
-        ap (λ b. bid_of (Ok b)) w.bid-is ∙ w.in_ok-bid-in-None.ensures,
-        subst (Keeps _) (sym w.kept-is) (keeps-more k (task c) (task-of c) _ w.in_ok-bid-in-None.ensures),
+      | in-None+in-Ok w ↦ (
+        ap (λ b. bid_of (Ok b)) w.bid-is ∙ w.in-Ok.ensures,
+        subst (Keeps _) (sym w.kept-is) (keeps-more k (task c) (task-of c) _ w.in-Ok.ensures),
       )
     ]
 
@@ -95,21 +94,21 @@ goes : (c : After-eq) → c.eq.result ≡ true → is_granted (answer-of c) ≡ 
 goes c e = ap is_granted (sym (asked c).0) ∙ says c ∙ e
 
 -- and whether it is Finished
-says_finished : (c : After-eq-in-loop-task) → is_finished (named c.match-kept-task.bid) ≡ c.eq-in-loop-task.result
+says_finished : (c : After-eq-in-loop-place) → is_finished (named c.match-kept-task.bid) ≡ c.eq-in-loop-place.result
 unfolding is_finished named
 says_finished c =
-    by_bool c.eq-in-loop-task.result
+    by_bool c.eq-in-loop-place.result
     (λ e.
-    let is : c.match-kept-task.bid ≡ Finished = search (rules, c.eq-in-loop-task.ensures, e) in
+    let is : c.match-kept-task.bid ≡ Finished = search (rules, c.eq-in-loop-place.ensures, e) in
     ap (λ b. is_finished (named b)) is ∙ sym e)
     (λ e.
-    let other : c.match-kept-task.bid ≡ Finished → ⊥ = λ q. search (rules, q, c.eq-in-loop-task.ensures, e) in
+    let other : c.match-kept-task.bid ≡ Finished → ⊥ = λ q. search (rules, q, c.eq-in-loop-place.ensures, e) in
     not_finished _ other ∙ sym e)
 
 -- the number of bids fits
-fits : (c : Joined-eq) → c.loop-task.made < 4294967295
+fits : (c : Joined-eq) → c.loop-place.made < 4294967295
 fits c =
-    made-small _ _ _ _ _ _ c.loop-task.invariant.0 c.loop-test.true c.loop-task-test.true (omega (arith, c.ranges.rounds.fits)) c.requires.order_fits.1
+    made-small _ _ _ _ _ _ c.loop-place.invariant.0 c.loop-test.true (omega (arith, c.loop-place-test.true)) (omega (arith, c.ranges.rounds.fits)) c.requires.order_fits.1
 
 pub loop-init : goal.loop-init
 loop-init c =
@@ -122,14 +121,13 @@ loop-init c =
 pub returns-then-ended : goal.returns-then-ended
 unfolding answer_of
 returns-then-ended c =
-    sym (stops _ _ _ _ _ _ c.loop-task.invariant.0 c.loop-test.true c.loop-task-test.true c.if-ended.true)
+    sym (stops _ _ _ _ _ _ c.loop-place.invariant.0 c.loop-test.true (omega (arith, c.loop-place-test.true)) c.if-ended.true)
 
-pub returns-in_err-bid-in-None : goal.returns-in_err-bid-in-None
+pub returns-in-Err : goal.returns-in-Err
 unfolding answer_of
-returns-in_err-bid-in-None c =
-    let p = err_from_is_err_and c.from_residual.result c.from_residual.ensures.1 in
-    rw (p.1, p.2) (sym (refuses _ _ _ _ _ _ c.loop-task.invariant.0 c.loop-test.true c.loop-task-test.true (accepted c.args.set.now.declares)
-    c.if-ended.false _ _ (sym c.in_err-bid-in-None.ensures)))
+returns-in-Err c =
+    sym (refuses _ _ _ _ _ _ c.loop-place.invariant.0 c.loop-test.true (omega (arith, c.loop-place-test.true)) (accepted c.args.set.now.declares) c.if-ended.false _ _
+    (sym c.in-Err.ensures))
 
 pub granted-rec-requires : goal.granted-rec-requires
 granted-rec-requires c =
@@ -140,7 +138,7 @@ pub overflow_add-rank : goal.overflow_add-rank
 overflow_add-rank c =
     let j = (goal.at.overflow_add-rank c).After-eq in
     let d = c.args.set.now.declares in
-    let g = granted-ranked d c.loop-task.invariant.0.ranked (settings_of c.args.settings) (task j) (goes j c.if-eq.true) in
+    let g = granted-ranked d c.loop-place.invariant.0.ranked (settings_of c.args.settings) (task j) (goes j c.if-eq.true) in
     record { fits = omega (arith, g.ranked, rank_lt _ _ (ranked-grid d g), d.well_formed.grid) }
 
 pub overflow_add-made : goal.overflow_add-made
@@ -149,21 +147,21 @@ overflow_add-made c = record { fits = omega (arith, fits c) }
 pub with-requires : goal.with-requires
 with-requires c =
     let j = goal.at.with-requires c in
-    let s = c.loop-task.invariant.0.small (task j.After-eq) in
+    let s = c.loop-place.invariant.0.small (task j.After-eq) in
     let l = fits j.Joined-eq in
     (omega (arith, s.granted-small, l), omega (arith, s.busy-small, l), omega (arith, s.held_small, l), omega (arith, s.spent-small, l))
 
 pub overflow_add-finished : goal.overflow_add-finished
 overflow_add-finished c =
-    record { fits = omega (arith, byte_small c.eq-in-loop-task.result, c.loop-task.invariant.0.few, fits (goal.at.overflow_add-finished c).Joined-eq) }
+    record { fits = omega (arith, byte_small c.eq-in-loop-place.result, c.loop-place.invariant.0.few, fits (goal.at.overflow_add-finished c).Joined-eq) }
 
-pub loop-task-preserved : goal.loop-task-preserved
+pub loop-place-preserved : goal.loop-place-preserved
 unfolding answer_of
-loop-task-preserved c =
-    let j = (goal.at.loop-task-preserved c).After-eq in
+loop-place-preserved c =
+    let j = (goal.at.loop-place-preserved c).After-eq in
     let a = c.args in
     let d = a.set.now.declares in
-    let l = c.loop-task in
+    let l = c.loop-place in
     let b = named c.match-kept-task.bid in
     let answered : answer-of j ≡ given b = sym (asked j).0 in
     -- the record, its rank and whether every task is finished, as the bid leaves them
@@ -187,16 +185,16 @@ loop-task-preserved c =
             (asked j).1,
           ))
     ] in (
-      moves _ _ _ _ _ _ l.invariant.0 c.loop-test.true c.loop-task-test.true (accepted d) c.if-ended.false b answered
+      moves _ _ _ _ _ _ l.invariant.0 c.loop-test.true (omega (arith, c.loop-place-test.true)) (accepted d) c.if-ended.false b answered
           (record_of c.if-eq.rec) q.0 c.if-eq.rank q.1 c.if-eq.ended q.2 (task-of j)
           c.with.result c.with.ensures
-          _ (ap (λ (n : ℕ). l.finished + n) (byte-cond c.eq-in-loop-task.result ∙ ap (λ x. cond x 1 0) (sym (says_finished (goal.at.loop-task-preserved c).After-eq-in-loop-task)))),
+          _ (ap (λ (n : ℕ). l.finished + n) (byte-cond c.eq-in-loop-place.result ∙ ap (λ x. cond x 1 0) (sym (says_finished (goal.at.loop-place-preserved c).After-eq-in-loop-place)))),
       q.3,
     )
 
 pub loop-preserved : goal.loop-preserved
 loop-preserved c =
-    (next-lap _ _ _ _ _ _ c.loop-task.invariant.0 (omega arith), c.loop-task.invariant.1)
+    (next-lap _ _ _ _ _ _ c.loop-place.invariant.0 (omega arith), c.loop-place.invariant.1)
 
 pub returns : goal.returns
 unfolding answer_of

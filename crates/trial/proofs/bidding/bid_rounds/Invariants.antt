@@ -14,7 +14,7 @@ invariant-loop l =
     × Keeps (bid_answer (set_of l.set) l.map (settings_of l.settings) (record_of l.rec)) l.kept
 
 -- before each bid of a round
-abbrev pub invariant-loop-task : goal.invariant-loop-task
-invariant-loop-task l =
-    Trying l.set.words.now l.map (settings_of l.settings) (set_of l.set) l.order l.rounds (record_of l.rec) l.rank l.ended l.rows l.finished l.made l.counter l.task-index
+abbrev pub invariant-loop-place : goal.invariant-loop-place
+invariant-loop-place l =
+    Trying l.set.words.now l.map (settings_of l.settings) (set_of l.set) l.order l.rounds (record_of l.rec) l.rank l.ended l.rows l.finished l.made l.counter l.place
     × Keeps (bid_answer (set_of l.set) l.map (settings_of l.settings) (record_of l.rec)) l.kept
