@@ -108,17 +108,24 @@ def of_source(paths, where):
 
 
 def of_enums(paths, where):
-    """The variants of the source's enums that have numbers, by the names that hosts use: name to value, and name to the type of the enum's `number`."""
-    text = "\n".join(path.read_text() for path in paths)
+    """The variants of the source's enums, by the names that hosts use: name to value, and name to the type of the enum's `number`. Each has a number of its own, and each
+    enum a `number`."""
     values, types = [], {}
-    for enum, body in re.findall(r"^pub enum (\w+) \{([^}]*)\}", text, re.M):
-        variants = re.findall(r"^ {4}(\w+) = (\d+),", body, re.M)
-        of_number = re.search(rf"^impl {enum} \{{\n(?:.*\n)*?.*fn number\(self\) -> (\w+)", text, re.M)
-        if variants and not of_number:
-            complaints.append(f"{where}: the enum {enum} has no number")
-        names = [screaming(variant) for variant, _ in variants]
-        values += zip(names, [number(value, where) for _, value in variants])
-        types.update({name: of_number and of_number[1] for name in names})
+    for path in paths:
+        text = path.read_text()
+        for enum, body in re.findall(r"^pub enum (\w+) \{\n(.*?)^\}", text, re.M | re.S):
+            methods = re.search(rf"^impl {enum} \{{\n(.*?)^\}}", text, re.M | re.S)
+            of_number = methods and re.search(r"^ {4}(?:pub )?fn number\(self\) -> (\w+)$", methods[1], re.M)
+            if not of_number:
+                complaints.append(f"{where}: {path.name}: the enum {enum} has no number")
+            for line in body.splitlines():
+                variant = re.fullmatch(r"    (\w+) = (\w+),", line)
+                if variant:
+                    name = screaming(variant[1])
+                    values.append((name, number(variant[2], where)))
+                    types[name] = of_number and of_number[1]
+                elif line.strip() and not line.strip().startswith("//"):
+                    complaints.append(f"{where}: {path.name}: the enum {enum} has a variant without a number of its own: {line.strip()}")
     return once(values, where), types
 
 
