@@ -13,7 +13,7 @@ mod sums;
 mod text;
 mod trials;
 
-// Where a line can't be written the program ends without a word.
+// What can't be written is passed over: the cases are played to the last.
 fn main(rt: HostRuntime) {
     let _ = cases::play_all(rt);
 }

@@ -1,4 +1,6 @@
 // Questions to a stored plan, and what is printed of them.
+ghost use Rattle.std.specs.Prelude.{◌≤◌};
+
 use crate::sums;
 use crate::text::Marks;
 use console::Said;
@@ -45,18 +47,20 @@ pub fn sweep(
     last: [u8; model::MAX_TASKS],
 ) -> io::Result<()> {
     let mut row = [0u8; MAX_STATES];
-    let n = states_up_to(last).min(MAX_STATES);
+    let n = states_up_to(last);
     let sum = fill_row(plan, tasks, last, &mut row[..n]);
     println!(rt; "swept {sum:08X}:{}", Marks(&row[..n]))
 }
 
-// How many states there are up to these positions, as far as a number goes.
-fn states_up_to(last: [u8; model::MAX_TASKS]) -> usize {
+// How many states there are up to these positions, counted no further than a sweep goes.
+fn states_up_to(last: [u8; model::MAX_TASKS]) -> usize
+    ensures { result ≤ 65536 }
+{
     let mut states: usize = 1;
     for position in last {
         states = states.saturating_mul(console::positions_up_to(position));
     }
-    states
+    states.min(MAX_STATES)
 }
 
 // A mark for each state, and the checksum of the indices.

@@ -5,7 +5,9 @@ use std::io::Result;
 
 // Puts eight tasks into the order's slice, from this place on, as far as it goes.
 pub fn place(order: &mut [u8], at: usize, tasks: [u8; model::MAX_TASKS]) {
-    for (old, task) in order.iter_mut().skip(at).zip(tasks) {
+    // Cut, and not skipped to, which would go by every byte before it.
+    let first = at.min(order.len());
+    for (old, task) in order[first..].iter_mut().zip(tasks) {
         *old = task;
     }
 }

@@ -11,11 +11,12 @@ mod stored;
 mod trials;
 mod units;
 
+use console::Onward;
 use std::io::Result;
 
-// Where a line can't be written the program ends without a word.
+// What can't be written is passed over: the calls are made to the last.
 fn main(rt: HostRuntime) {
-    let _ = make_all(&rt);
+    let _ = make_all(&Onward { output: rt });
 }
 
 fn make_all(rt: &impl Print) -> Result<()> {
