@@ -26,7 +26,7 @@ pub fn answer_at(
     requires { Ranked (set_of set.now) map.now (record_of rec) rank × ((is_setting settings.share && is_setting settings.window) ≡ true) }
     ensures { bid_of result ≡ bid_answer (set_of set.now) map.now (settings_of settings) (record_of rec) task }
 {
-    if map[rank] != model::OPEN {
+    if map[rank] != Record::OPEN {
         return Err(Reason::BadRecord.at(0));
     }
     let window = settings.window;
@@ -56,7 +56,7 @@ fn answer_on(
         return Err(Reason::BadRecord.at(0));
     }
     let rank = records::rank_of(rec, set.shape);
-    if map[rank] != model::OPEN {
+    if map[rank] != Record::OPEN {
         return Err(Reason::BadRecord.at(0));
     }
     if settings.window <= rec.used() {

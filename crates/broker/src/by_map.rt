@@ -17,9 +17,9 @@ fn byte_answer(byte: u8, rank: usize, device: u32) -> Result<Bid, Refusal>
     ensures { bid_of result ≡ bid_byte byte rank device }
 {
     match byte {
-        model::OPEN => Ok(Bid::Granted),
-        model::FORBIDDEN => Ok(Bid::Busy { device }),
-        model::UNSAFE | model::DEAD => Ok(Bid::Held { rank }),
+        Record::OPEN => Ok(Bid::Granted),
+        Record::FORBIDDEN => Ok(Bid::Busy { device }),
+        Record::UNSAFE | Record::DEAD => Ok(Bid::Held { rank }),
         _ => Err(Reason::BadMapByte.at(rank)),
     }
 }

@@ -39,7 +39,7 @@ fn goes(map: &[u8], count: u8, share: u32, position: u8, length: u8, next: usize
     if length <= position {
         return false;
     }
-    map[next] == model::OPEN
+    map[next] == Record::OPEN
 }
 
 // Whether some task with share left would be granted in the record's state. It is asked for a task that has none left, which is therefore not found and need not be

@@ -23,7 +23,7 @@ pub fn clean_file(bytes: &[u8], file: &mut [u8]) -> usize
     let mut words = [0u32; model::MAX_WORDS];
     match listing::decode(bytes, &mut words) {
         Ok(count) => clean_words(&words[..count], file),
-        Err(refusal) => listing::put_refusal(refusal, file),
+        Err(refusal) => listing::put_refusal(refusal.reason.number(), refusal.place, file),
     }
 }
 
@@ -36,6 +36,6 @@ fn clean_words(words: &[u32], file: &mut [u8]) -> usize
     let mut clean = [0u32; model::MAX_WORDS];
     match cleaner::clean(words, &mut clean) {
         Ok(count) => listing::fill_bytes(&clean[..count], file) * listing::WORD_BYTES,
-        Err(refusal) => listing::put_refusal(refusal, file),
+        Err(refusal) => listing::put_refusal(refusal.reason.number(), refusal.place, file),
     }
 }

@@ -2,9 +2,6 @@
 ghost use Rattle.std.specs.Prelude.{◌≡◌, ◌++◌, ◌+◌, ◌/◌, ◌≤◌, ◌<◌, min, length, take, set};
 ghost use Rattle.model.specs.Slice.{over, write};
 ghost use Rattle.model.specs.Printed.{hex_digit, hex_line, lines_of, decimal, refusal_line};
-ghost use Rattle.refusals.specs.Answers.{number_of};
-
-use refusals::Refusal;
 
 // A word's digits.
 pub const DIGITS: usize = 8;
@@ -64,15 +61,14 @@ fn hex_digit(n: u32) -> u8
 }
 
 // Puts a refusal's line at the start of `out`, and answers its length. Two numbers of 64 bits have at most 20 digits each, and 13 bytes stand round them.
-pub fn put_refusal(refusal: Refusal, out: &mut [u8]) -> usize
+pub fn put_refusal(number: u8, place: usize, out: &mut [u8]) -> usize
     requires { 53 ≤ length out.old }
-    ensures value { result ≡ length (refusal_line (number_of refusal.reason) refusal.place) }
+    ensures value { result ≡ length (refusal_line number place) }
     ensures upper_bound { result ≤ 53 }
-    ensures out_after { out.new ≡ over (refusal_line (number_of refusal.reason) refusal.place) out.old }
+    ensures out_after { out.new ≡ over (refusal_line number place) out.old }
 {
-    let number = refusal.reason.number();
     let numbered = put_named(b"refused ", number as usize, out, 0);
-    let placed = put_named(b" at ", refusal.place, out, numbered);
+    let placed = put_named(b" at ", place, out, numbered);
     put(b"\n", out, placed)
 }
 

@@ -10,7 +10,7 @@ use mathlib.Core.List.{List, [], ◌∷◌}
 use lib.ListN.{length, take, drop, drop_of_length-le}
 use lib.Seq.{length-take-le, drop-cons, get_or-take}
 use lib.Dec.{eqb, ltb, leb}
-use borrow.Author.Tests.{ltb-true, ltb-false, eqb-true, eqb-false, eq-eqb, ne_eqb, lt-ltb, le-ltb, le-leb}
+use borrow.Author.Tests.{ltb-true, ltb-false, leb-true, leb-false, eqb-true, eqb-false, eq-eqb, ne_eqb, lt-ltb, le-ltb, le-leb}
 use Rattle.std.proofs.Common.{length-drop, Option, Some, None, Result, Ok, Err}
 use Rattle.model.specs.Answer.{Answer, given, refused, ◌then◌}
 use Rattle.model.specs.Set.{at}
@@ -34,7 +34,7 @@ use Rattle.set_words.proofs.Named.{named-number, named-none}
 use Rattle.plan_reader.specs.declared.Location.{Location}
 use Rattle.plan_reader.specs.declared.seen.Seen.{Seen}
 use Rattle.plan_reader.specs.Says.{location_of}
-use Rattle.plan_reader.specs.Walk.{scan_of, before, last_box, outside_at, side_noted, rank_noted, box_noted, side_taken, end_taken, follows, head_taken}
+use Rattle.plan_reader.specs.Walk.{word_at, scan_of, before, last_box, outside_at, side_noted, rank_noted, box_noted, side_taken, end_taken, follows, head_taken}
 use Rattle.plan_reader.proofs.Found.{lies, found-answer, lies-forbidden, lies-unsafe, same_then}
 
 -- n tasks, and a state
@@ -244,6 +244,21 @@ begins n x ws least most = rw (le-leb 1 n least, le-leb n 8 most, le-ltb n n (om
 pub end_missing : (n : ℕ) (x : State) (ws : List ℕ) (s : Seen) (i : ℕ) → i ≡ length ws → answer_at n x s i (drop i ws) ≡ refused 23 (length ws)
 unfolding scan_from ◌then◌
 end_missing n x ws s i e = rw (drop_of_length-le ws {i = i} (omega (arith, e)), e)
+
+-- a word that is there stands before the last one's end, and none only where they are over
+pub word-there : (ws : List ℕ) (i w : ℕ) → word_at ws i ≡ Some w → (i < length ws) × (at ws i ≡ w)
+word-there ws i w = by_test (leb (length ws) i) refl
+  where
+    by_test : (b : Bool) → leb (length ws) i ≡ b → cond b None (Some (at ws i)) ≡ Some w → (i < length ws) × (at ws i ≡ w)
+    by_test true q e = absurd (let z : ⊥ = cc in z)
+    by_test false q e = let same : at ws i ≡ w = cc in (leb-false (length ws) i q, same)
+
+pub none-there : (ws : List ℕ) (i : ℕ) → word_at ws i ≡ None → length ws ≤ i
+none-there ws i = by_test (leb (length ws) i) refl
+  where
+    by_test : (b : Bool) → leb (length ws) i ≡ b → cond b None (Some (at ws i)) ≡ None → length ws ≤ i
+    by_test true q e = leb-true (length ws) i q
+    by_test false q e = absurd (let z : ⊥ = cc in z)
 
 -- ---- a turn of the walk: the word at index i of all words
 module _ (n : ℕ) (x : State) (ws : List ℕ) (s : Seen) (i : ℕ) (within : i < length ws) (h : n ≤ 8) where

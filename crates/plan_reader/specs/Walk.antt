@@ -1,5 +1,6 @@
 -- How the code's walk follows the model's scan: for the contracts of the reader's own functions.
-use Rattle.std.specs.Prelude.{ℕ, ◌+◌, Bool, true, false, cond, ◌&&◌, ◌||◌, Option, Some, None, Result, Ok, Err, eqb, ltb, leb}
+use Rattle.std.specs.Prelude.{ℕ, ◌+◌, Bool, true, false, cond, ◌&&◌, ◌||◌, List, length, Option, Some, None, Result, Ok, Err, eqb, ltb, leb}
+use Rattle.model.specs.Set.{at}
 use Rattle.model.specs.Layout.{field_of}
 use Rattle.model.specs.Hold.{within}
 use Rattle.model.specs.Plan.{FORBIDDEN_BOX, UNSAFE_BOX, side_of}
@@ -16,6 +17,10 @@ use Rattle.plan_reader.specs.declared.seen.Seen.{Seen}
 -- the scan that a walk has made, where END didn't come
 abbrev pub scan_of : Seen → PlanScan
 scan_of s = record { section = number_of s.section; sides = s.sides; least = s.least; ended = false }
+
+-- the word at index i of a plan, none past the last one
+abbrev pub word_at : List ℕ → ℕ → Option ℕ
+word_at ws i = cond (leb (length ws) i) None (Some (at ws i))
 
 -- before the first word, of n tasks
 abbrev pub before : ℕ → Seen

@@ -1,14 +1,24 @@
-// One more word of a plan, at its index: whether it may stand there, and what a walk has seen once it is taken.
+// One more word of a plan, at its index: whether it may stand there, and what a walk has seen once it is taken. This is the reader over a slice and a number.
 ghost use Rattle.std.specs.Prelude.{◌≡◌, ◌≤◌, ◌<◌};
 ghost use Rattle.model.specs.Layout.{kind_of, field_of};
 ghost use Rattle.model.specs.StoredPlan.{is_rank};
 ghost use Rattle.set_words.specs.Kinds.{kind_named, number_of};
-ghost use Rattle.plan_reader.specs.Walk.{side_taken, end_taken, rank_noted, box_noted, follows, head_taken};
+ghost use Rattle.plan_reader.specs.Walk.{word_at, side_taken, end_taken, rank_noted, box_noted, follows, head_taken};
 
 use crate::Location;
 use crate::seen::Seen;
 use refusals::{Reason, Refusal};
 use set_words::Kind;
+
+// The word at an index, None past the last one.
+pub(crate) fn word_at(words: &[u32], at: usize) -> Option<u32>
+    ensures { result ≡ word_at words.now at }
+{
+    if words.len() <= at {
+        return None;
+    }
+    Some(words[at])
+}
 
 // Devices are numbered below this.
 const DEVICES: u32 = model::MAX_DEVICES as u32;
@@ -118,7 +128,7 @@ fn take_box(seen: Seen, kind: Kind, at: usize) -> Seen
 pub(crate) fn take_head(seen: Seen, at: usize, word: u32, tasks: usize) -> Result<Seen, Refusal>
     ensures { result ≡ head_taken tasks seen at (kind_named (kind_of word)) (field_of word) }
 {
-    let Some(kind) = set_words::kind(word) else {
+    let Some(kind) = set_words::named_kind(word) else {
         return Err(Reason::OutsideLayout.at(at));
     };
     let field = set_words::field(word);

@@ -7,7 +7,6 @@ ghost use Rattle.model.specs.Layout.{word};
 ghost use Rattle.model.specs.Hold.{within};
 ghost use Rattle.model.specs.Plan.{FORBIDDEN_BOX, UNSAFE_BOX, side_word, side_of};
 ghost use Rattle.model.specs.StoredPlan.{is_side};
-ghost use Rattle.set_words.specs.Kinds.{number_of};
 ghost use Rattle.plan_words.specs.Words.{Wrote};
 
 use set_words::Kind;
@@ -84,12 +83,13 @@ pub fn side_holds(side: u32, position: u8) -> bool
     position <= side_high(side)
 }
 
-// The word of a kind that names a state, by its rank.
-pub fn rank_word(kind: Kind, rank: usize) -> u32
-    requires { rank < 65536 }
-    ensures { result ≡ word (number_of kind) rank }
+// The word that names a state by its rank, of a kind by its number.
+pub fn rank_word(kind: u32, rank: usize) -> u32
+    requires kind_bound { kind < 16 }
+    requires rank_bound { rank < 65536 }
+    ensures { result ≡ word kind rank }
 {
-    kind.number() * model::FIELDS + rank as u32
+    kind * model::FIELDS + rank as u32
 }
 
 // One word, written if it fits; the answer is the place after it, None where it doesn't fit.

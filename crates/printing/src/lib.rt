@@ -29,7 +29,7 @@ pub fn print(bytes: &[u8], text: &mut [u8]) -> usize
     let mut words = [0u32; model::MAX_WORDS];
     match listing::decode(bytes, &mut words) {
         Ok(count) => print_plan(&words[..count], text),
-        Err(refusal) => listing::put_refusal(refusal, text),
+        Err(refusal) => listing::put_refusal(refusal.reason.number(), refusal.place, text),
     }
 }
 
@@ -43,6 +43,6 @@ fn print_plan(words: &[u32], text: &mut [u8]) -> usize
     let mut plan = [0u32; PLAN];
     match analysis::analyse(words, &mut map, &mut plan) {
         Ok(planned) => listing::fill_lines(&plan[..planned.words], text) * listing::LINE,
-        Err(refused) => listing::put_refusal(refused, text),
+        Err(refused) => listing::put_refusal(refused.reason.number(), refused.place, text),
     }
 }

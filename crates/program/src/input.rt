@@ -1,20 +1,28 @@
 // Input, read to its end.
-ghost use Rattle.std.specs.Prelude.{IfOk};
+ghost use Rattle.std.specs.Prelude.{IfOk, IfErr};
 ghost use Rattle.io.specs.Counts.{IsPrefixLen};
 
-use std::io::{Read, Result};
+use std::io::{Error, Read};
+
+// A read that failed: how many bytes came before it, and why.
+#[derive(Clone, Copy)]
+pub struct FailedRead {
+    pub count: usize,
+    pub error: Error,
+}
 
 // Reads until the input ends, a read fails or `bytes` is full, and answers how many bytes were read.
-pub fn read_all(input: &mut impl Read, bytes: &mut [u8]) -> Result<usize>
-    ensures { IfOk result (λ count. IsPrefixLen count bytes.new) }
+pub fn read_all(input: &mut impl Read, bytes: &mut [u8]) -> Result<usize, FailedRead>
+    ensures whole { IfOk result (λ count. IsPrefixLen count bytes.new) }
+    ensures before { IfErr result (λ failed. IsPrefixLen failed.count bytes.new) }
 {
     let mut count = 0;
     while count < bytes.len() {
-        let more = input.read(&mut bytes[count..])?;
-        if more == 0 {
-            break;
+        match input.read(&mut bytes[count..]) {
+            Ok(0) => break,
+            Ok(more) => count += more,
+            Err(error) => return Err(FailedRead { count, error }),
         }
-        count += more;
     }
     Ok(count)
 }

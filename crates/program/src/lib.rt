@@ -10,7 +10,7 @@ mod whole;
 
 pub use arguments::{Asked, is_given, read_arguments};
 pub use failures::{unread, written};
-pub use input::read_all;
+pub use input::{FailedRead, read_all};
 pub use numbers::read_number;
 use std::io::Result;
 pub use whole::filter;

@@ -27,7 +27,7 @@ pub fn filter<const INPUT: usize, const OUTPUT: usize, F: FnOnce(&[u8], &mut [u8
                     let length = work(&bytes[..count], &mut out);
                     written(&rt, name, rt.write_all(&out[..length]));
                 }
-                Err(error) => unread(&rt, name, error),
+                Err(failed) => unread(&rt, name, failed.error),
             }
         }
         Asked::Help => written(&rt, name, rt.print(help)),

@@ -127,7 +127,7 @@ pub(crate) fn word_fault(scan: &Scan, i: usize, word: u32) -> Option<Reason>
     // The actions of the task opened last.
     let length = scan.lengths[scan.tasks.saturating_sub(1)] as usize;
     let field = set_words::field(word);
-    let Some(kind) = set_words::kind(word) else {
+    let Some(kind) = set_words::named_kind(word) else {
         return Some(Reason::UnknownKind);
     };
     match kind {

@@ -24,13 +24,24 @@ pub struct Record {
 }
 
 impl Record {
+    pub const TASKS: usize = model::MAX_TASKS;
+
+    // The map's bytes.
+    pub const OPEN: u8 = model::OPEN;
+
+    pub const FORBIDDEN: u8 = model::FORBIDDEN;
+
+    pub const UNSAFE: u8 = model::UNSAFE;
+
+    pub const DEAD: u8 = model::DEAD;
+
     pub fn fresh() -> Self
         ensures { record_of result ≡ fresh }
     {
         Self {
-            positions: [0; model::MAX_TASKS],
+            positions: [0; Self::TASKS],
             grants: 0,
-            counts: [0; model::MAX_TASKS],
+            counts: [0; Self::TASKS],
         }
     }
 

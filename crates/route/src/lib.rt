@@ -49,7 +49,7 @@ fn first_step(
     ensures { let t = first_step (take tasks lengths) map.now (take tasks positions) in result ≡ cond (ltb t tasks) (Some t) None }
 {
     for t in 0..tasks {
-        if positions[t] < lengths[t] && map[rank + weights[t]] == model::OPEN {
+        if positions[t] < lengths[t] && map[rank + weights[t]] == Record::OPEN {
             return Some(t);
         }
     }
@@ -126,9 +126,9 @@ fn route_on(set: &AcceptedSet, map: &[u8], rec: Record, slice: &mut [u8]) -> Res
     }
     let rank = records::rank_of(rec, set.shape);
     match map[rank] {
-        model::OPEN => route_from(map, set.shape, rec, rank, slice),
-        model::FORBIDDEN => refuse(Reason::BadRecord.at(0), slice),
-        model::UNSAFE | model::DEAD => refuse(Reason::NoRoute.at(rank), slice),
+        Record::OPEN => route_from(map, set.shape, rec, rank, slice),
+        Record::FORBIDDEN => refuse(Reason::BadRecord.at(0), slice),
+        Record::UNSAFE | Record::DEAD => refuse(Reason::NoRoute.at(rank), slice),
         _ => refuse(Reason::BadMapByte.at(rank), slice),
     }
 }

@@ -60,7 +60,7 @@ fn try_file(rt: HostRuntime, order: &[u8], wanted: Wanted) {
             };
             program::written(&rt, NAME, outcome);
         }
-        Err(error) => program::unread(&rt, NAME, error),
+        Err(failed) => program::unread(&rt, NAME, failed.error),
     }
 }
 

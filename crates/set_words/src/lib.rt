@@ -20,18 +20,25 @@ const RELEASE_WORD: u32 = Kind::Release as u32 * model::FIELDS;
 
 const END_WORD: u32 = Kind::End as u32 * model::FIELDS;
 
-// The kind of a word, None where the number that stands for it is no kind's.
-pub fn kind(word: u32) -> Option<Kind>
+// The number that stands for the kind of a word, which may be no kind's.
+pub fn kind(word: u32) -> u32
+    ensures { result ≡ kind_of word }
+{
+    word / model::FIELDS
+}
+
+// The kind of a word by name, None where its number is no kind's.
+pub fn named_kind(word: u32) -> Option<Kind>
     ensures { result ≡ kind_named (kind_of word) }
 {
-    Kind::named(word / model::FIELDS)
+    Kind::named(kind(word))
 }
 
 // Whether a word is of a kind.
-pub fn has_kind(word: u32, kind: Kind) -> bool
-    ensures { result ≡ eqb (kind_of word) (number_of kind) }
+pub fn has_kind(word: u32, wanted: Kind) -> bool
+    ensures { result ≡ eqb (kind_of word) (number_of wanted) }
 {
-    word / model::FIELDS == kind.number()
+    kind(word) == wanted.number()
 }
 
 // The field of a word.

@@ -10,10 +10,10 @@ ghost use Rattle.task_sets.specs.Next.{follow, next};
 pub use sets::{TaskSets, all};
 
 // How many task sets there are.
-const TASK_SET_COUNT: usize = 255;
+pub const TASK_SET_COUNT: usize = 255;
 
 // The first set: task 0 alone.
-const FIRST_SET: u8 = 1;
+pub const FIRST_SET: u8 = 1;
 
 // Task 7 and all eight, as masks.
 const LAST_TASK: u8 = 128;

@@ -50,6 +50,8 @@ pub returns-in-Err : goal.returns-in-Err
 unfolding output_of
 returns-in-Err c =
     let e = c.put_refusal.ensures in
+    let value = rw c.number.ensures at e.value in
+    let after = rw c.number.ensures at e.out_after in
     let file = c.args.file.now in
     let none = has-none _ _ _ (length-replicate {A = ℕ} 4096 0) _ c.in-Err.ensures in
-    record { file_after = line-shown output_of (λ n p. refl) file _ _ _ _ _ none e.value e.out_after; upper_bound = omega (arith, e.upper_bound) }
+    record { file_after = line-shown output_of (λ n p. refl) file _ _ _ _ _ none value after; upper_bound = omega (arith, e.upper_bound) }

@@ -48,6 +48,8 @@ pub returns-in-Err : goal.returns-in-Err
 unfolding text_of
 returns-in-Err c =
     let e = c.put_refusal.ensures in
+    let value = rw c.number.ensures at e.value in
+    let after = rw c.number.ensures at e.out_after in
     let a = c.args in
-    let s = none-shown text_of (λ n p. refl) a.text.now to_show a.bytes.now _ _ _ c.in-Err.ensures.value e.value e.out_after in
+    let s = none-shown text_of (λ n p. refl) a.text.now to_show a.bytes.now _ _ _ c.in-Err.ensures.value value after in
     record { text_after = s ∙ long-enough a.bytes.now a.text.now (omega arith); upper_bound = omega (arith, e.upper_bound) }

@@ -43,6 +43,8 @@ pub returns-in-Err : goal.returns-in-Err
 unfolding text_of
 returns-in-Err c =
     let e = c.put_refusal.ensures in
+    let value = rw c.number.ensures at e.value in
+    let after = rw c.number.ensures at e.out_after in
     let text = c.args.text.now in
     let none = has-none _ _ _ _ _ (omega (arith, length-replicate {A = ℕ} 65536 255)) (length-replicate {A = ℕ} 16384 0) _ c.in-Err.ensures in
-    record { text_after = line-shown text_of (λ n p. refl) text _ _ _ _ _ none e.value e.out_after; upper_bound = omega (arith, e.upper_bound) }
+    record { text_after = line-shown text_of (λ n p. refl) text _ _ _ _ _ none value after; upper_bound = omega (arith, e.upper_bound) }

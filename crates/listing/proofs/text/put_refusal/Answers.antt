@@ -8,7 +8,6 @@ use lib.ListN.{length}
 use Rattle.model.specs.Slice.{write}
 use Rattle.model.specs.Printed.{codes, decimal, refusal_line}
 use Rattle.model.proofs.Slices.{write-front}
-use Rattle.refusals.specs.Answers.{number_of}
 use Rattle.listing.proofs.Runs.{put-more}
 use Rattle.listing.proofs.text.put_refusal.Goals as goal
 
@@ -24,14 +23,13 @@ returns c =
     let x = c.put_named-numbered.ensures in
     let a = c.args in
     let o = a.out.now in
-    let n = codes "refused " ++ decimal c.number-number.result in
-    let p = codes " at " ++ decimal a.refusal.place in
+    let n = codes "refused " ++ decimal a.number in
+    let p = codes " at " ++ decimal a.place in
     let both = put-more o 0 n p (x.value, x.out_after) (omega (arith, x.value, x.upper_bound, y.value, y.upper_bound)) (y.value, y.out_after) in
     let all = put-more o 0 (n ++ p) (10 ∷ []) both (omega (arith, both.0, x.upper_bound, y.upper_bound)) (z.value, z.out_after) in
-    let number = number_of a.refusal.reason in
-    let l = line c.number-number.result a.refusal.place ∙ ap (λ (n : ℕ). refusal_line n a.refusal.place) c.number-number.ensures in
+    let l = line a.number a.place in
     record {
       value = omega (arith, all.0, ap length l);
       upper_bound = omega (arith, z.value, x.upper_bound, y.upper_bound);
-      out_after = all.1 ∙ ap (write o 0) l ∙ write-front o (refusal_line number a.refusal.place);
+      out_after = all.1 ∙ ap (write o 0) l ∙ write-front o (refusal_line a.number a.place);
     }

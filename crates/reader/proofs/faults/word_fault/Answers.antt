@@ -16,7 +16,7 @@ use Rattle.reader.proofs.faults.word_fault.Goals as goal
 
 -- the kind of the word, where a number names one
 named : (c : In-Some) → kind_of c.args.word ≡ number_of c.in-Some.kind
-named c = named-number (kind_of c.args.word) c.in-Some.kind (sym c.kind.ensures ∙ c.in-Some.is)
+named c = named-number (kind_of c.args.word) c.in-Some.kind (sym c.named_kind.ensures ∙ c.in-Some.is)
 
 is : (c : In-Some) (k : Kind) → c.in-Some.kind ≡ k → kind_of c.args.word ≡ number_of k
 is c k e = named c ∙ ap number_of e
@@ -25,7 +25,7 @@ pub returns-in_default : goal.returns-in_default
 unfolding fault_number refusal word_fault
 returns-in_default c =
     let n = kind_of c.args.word in
-    let e = sym c.kind.ensures ∙ c.in_default.is in
+    let e = sym c.named_kind.ensures ∙ c.in_default.is in
     rw (named-none n Device e, named-none n Task e, named-none n Claim e, named-none n Release e, named-none n End e)
 
 pub returns-in-Device : goal.returns-in-Device
