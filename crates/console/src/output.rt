@@ -1,4 +1,6 @@
 // Standard output for programs that go on where a write fails.
+ghost use Rattle.std.specs.Prelude.{IsOk};
+
 use std::fmt::Display;
 use std::io::Result;
 
@@ -9,17 +11,23 @@ pub struct Onward<P> {
 }
 
 impl<P: Print> Print for Onward<P> {
-    fn print<D: Display + Drop>(&self, value: D) -> Result<()> {
+    fn print<D: Display + Drop>(&self, value: D) -> Result<()>
+        ensures { IsOk result }
+    {
         let _ = self.output.print(value);
         Ok(())
     }
 
-    fn println<D: Display + Drop>(&self, value: D) -> Result<()> {
+    fn println<D: Display + Drop>(&self, value: D) -> Result<()>
+        ensures { IsOk result }
+    {
         let _ = self.output.println(value);
         Ok(())
     }
 
-    fn write_all(&self, bytes: &[u8]) -> Result<()> {
+    fn write_all(&self, bytes: &[u8]) -> Result<()>
+        ensures { IsOk result }
+    {
         let _ = self.output.write_all(bytes);
         Ok(())
     }
